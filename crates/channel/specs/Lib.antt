@@ -1,0 +1,5 @@
+pub mod Record
+pub mod Modes
+pub mod Shared
+pub mod Fresh
+pub mod Queries

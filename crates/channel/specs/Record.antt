@@ -1,0 +1,68 @@
+-- A channel's record with one of its parts put in the place of another. Document 01, "What must change shape": "Struct update is
+-- written out." Every definition of a rule puts parts back through these.
+use mathlib.Core.Bool.{Bool}
+use Rattle.channel.specs.declared.Channel.{Channel}
+use Rattle.channel.specs.declared.Load.{Load}
+use Rattle.channel.specs.declared.Counter.{Counter}
+use Rattle.channel.specs.declared.Latch.{Latch}
+use Rattle.channel.specs.declared.Pins.{Pins}
+
+abbrev pub withLoad : Channel → Load → Channel
+withLoad c l =
+    record {
+      control = c .control;
+      reloading = c .reloading;
+      load = l;
+      counter = c .counter;
+      latch = c .latch;
+      pins = c .pins;
+      dirty = c .dirty;
+    }
+
+abbrev pub withCounter : Channel → Counter → Channel
+withCounter c k =
+    record {
+      control = c .control;
+      reloading = c .reloading;
+      load = c .load;
+      counter = k;
+      latch = c .latch;
+      pins = c .pins;
+      dirty = c .dirty;
+    }
+
+abbrev pub withLatch : Channel → Latch → Channel
+withLatch c l =
+    record {
+      control = c .control;
+      reloading = c .reloading;
+      load = c .load;
+      counter = c .counter;
+      latch = l;
+      pins = c .pins;
+      dirty = c .dirty;
+    }
+
+abbrev pub withPins : Channel → Pins → Channel
+withPins c p =
+    record {
+      control = c .control;
+      reloading = c .reloading;
+      load = c .load;
+      counter = c .counter;
+      latch = c .latch;
+      pins = p;
+      dirty = c .dirty;
+    }
+
+abbrev pub withDirty : Channel → Bool → Channel
+withDirty c d =
+    record {
+      control = c .control;
+      reloading = c .reloading;
+      load = c .load;
+      counter = c .counter;
+      latch = c .latch;
+      pins = c .pins;
+      dirty = d;
+    }

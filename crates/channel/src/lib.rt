@@ -1,0 +1,113 @@
+// One channel of the timer: its record, and the rules that several parts of it share.
+//
+// The groups are those of the chip's block diagram: control word register, count register, counting element,
+// output latch, and the two pins. No record holds its channel's number; its place on the board is its number.
+pub mod fresh;
+pub mod queries;
+pub mod shared;
+
+// Which of Intel's two chips the board carries.
+pub enum PitType {
+    Model8253,
+    Model8254,
+}
+
+// Modes 0 to 5, in this order.
+pub enum ChannelMode {
+    InterruptOnTerminalCount,
+    HardwareRetriggerableOneShot,
+    RateGenerator,
+    SquareWaveGenerator,
+    SoftwareTriggeredStrobe,
+    HardwareTriggeredStrobe,
+}
+
+// The access: low byte, high byte, or low then high.
+pub enum RwMode {
+    Lsb,
+    Msb,
+    LsbMsb,
+}
+
+pub enum ReloadFlag {
+    Normal,
+    ReloadNextCycle,
+}
+
+pub enum ChannelState {
+    WaitingForReload,
+    WaitingForGate,
+    DeferLoadCycle,
+    WaitingForLoadCycle,
+    WaitingForLoadTrigger,
+    Counting(ReloadFlag),
+}
+
+pub enum LoadState {
+    WaitingForLsb,
+    WaitingForMsb,
+}
+
+// Whether the next complete load is the first since the mode set.
+pub enum LoadType {
+    InitialLoad,
+    SubsequentLoad,
+}
+
+pub enum ReadState {
+    NoRead,
+    ReadLsb,
+}
+
+// The control word register: what a mode set carries.
+pub struct ControlWord {
+    pub mode: ChannelMode,
+    pub rw_mode: RwMode,
+    pub bcd_mode: bool,
+}
+
+// What a mode leaves behind for its loads.
+pub struct Reloading {
+    pub output_on_reload: bool,
+    pub reload_on_trigger: bool,
+    pub load_mask: u16,
+}
+
+// The count register, the reload value, and how far a load has come.
+pub struct Load {
+    pub count_register: u16,
+    pub reload_value: u16,
+    pub load_state: LoadState,
+    pub load_type: LoadType,
+    pub armed: bool,
+}
+
+// The counting element and the state it counts in.
+pub struct Counter {
+    pub channel_state: ChannelState,
+    pub cycles_in_state: u32,
+    pub counting_element: u16,
+    pub ticked: bool,
+}
+
+// The output latch, which every read comes from.
+pub struct Latch {
+    pub output_latch: u16,
+    pub count_is_latched: bool,
+    pub read_state: ReadState,
+}
+
+pub struct Pins {
+    pub gate: bool,
+    pub output: bool,
+}
+
+pub struct Channel {
+    pub control: ControlWord,
+    pub reloading: Reloading,
+    pub load: Load,
+    pub counter: Counter,
+    pub latch: Latch,
+    pub pins: Pins,
+    pub dirty: bool,
+}
