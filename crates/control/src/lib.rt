@@ -1,0 +1,71 @@
+// The control byte, taken apart into one of three commands.
+use channel::ChannelMode;
+use channel::ControlWord;
+use channel::RwMode;
+ghost use mathlib.Core.Path.{_≡_};
+ghost use Prim.Native.Nat.{_<_};
+ghost use Rattle.control.specs.Control.{firstModes, modeOf, accessOf, commandOf};
+
+pub enum Command {
+    // Channel 3, on either model.
+    Nothing,
+    // Latch the count of a channel.
+    Latch(u8),
+    // Set a channel's mode, access and radix.
+    SetMode(u8, ControlWord),
+}
+
+fn first_modes(n: u8) -> ChannelMode
+    requires { ⌜ n < 6 ⌝ }
+    ensures { λ r. ⌜ r ≡ firstModes n ⌝ }
+{
+    match n {
+        0 => ChannelMode::InterruptOnTerminalCount,
+        1 => ChannelMode::HardwareRetriggerableOneShot,
+        2 => ChannelMode::RateGenerator,
+        3 => ChannelMode::SquareWaveGenerator,
+        4 => ChannelMode::SoftwareTriggeredStrobe,
+        _ => ChannelMode::HardwareTriggeredStrobe,
+    }
+}
+
+fn mode_of(n: u8) -> ChannelMode
+    requires { ⌜ n < 8 ⌝ }
+    ensures { λ r. ⌜ r ≡ modeOf n ⌝ }
+{
+    if 5 < n { first_modes(n - 4) } else { first_modes(n) }
+}
+
+fn access_of(n: u8) -> RwMode
+    ensures { λ r. ⌜ r ≡ accessOf n ⌝ }
+{
+    if n == 1 {
+        return RwMode::Lsb;
+    }
+    if n == 2 {
+        return RwMode::Msb;
+    }
+    RwMode::LsbMsb
+}
+
+pub fn command_of(byte: u8) -> Command
+    ensures { λ r. ⌜ r ≡ commandOf byte ⌝ }
+{
+    let channel = byte / 64;
+    if channel == 3 {
+        return Command::Nothing;
+    }
+    let access = byte / 16 % 4;
+    if access == 0 {
+        return Command::Latch(channel);
+    }
+    let rw_mode = access_of(access);
+    let mode = mode_of(byte / 2 % 8);
+    let bcd_mode = byte % 2 == 1;
+    let word = ControlWord {
+        mode,
+        rw_mode,
+        bcd_mode,
+    };
+    Command::SetMode(channel, word)
+}

@@ -1,0 +1,53 @@
+-- Document 01, "Counting, latch and reading": reads of a channel's data port.
+use Prim.Native.Nat.{ℕ, _/_, _%_}
+use mathlib.Core.Bool.{Bool, true, false, cond}
+use Rattle.channel.specs.declared.Channel.{Channel}
+use Rattle.channel.specs.declared.Latch.{Latch}
+use Rattle.channel.specs.declared.RwMode.{RwMode}
+use Rattle.channel.specs.declared.RwMode.the-variants.{Lsb, Msb, LsbMsb}
+use Rattle.channel.specs.declared.ReadState.{ReadState}
+use Rattle.channel.specs.declared.ReadState.the-variants.{NoRead, ReadLsb}
+use Rattle.channel.specs.Record.{withLatch}
+use Rattle.latch.specs.declared.Half.{Half}
+use Rattle.latch.specs.declared.Half.the-variants.{Low, High}
+use Rattle.latch.specs.declared.ByteRead.{ByteRead}
+
+-- "Reads come from the output latch: low, high, or low then high; in any access a half-read word gives its high byte next."
+abbrev pub halfAt : ReadState → RwMode → Half
+halfAt NoRead Lsb = Low
+halfAt NoRead Msb = High
+halfAt NoRead LsbMsb = Low
+halfAt ReadLsb Lsb = High
+halfAt ReadLsb Msb = High
+halfAt ReadLsb LsbMsb = High
+
+abbrev pub byteAt : Half → ℕ → ℕ
+byteAt Low v = v % 256
+byteAt High v = v / 256
+
+-- a low, a high or a word's second byte; not a word's first
+abbrev pub wholeAt : ReadState → RwMode → Bool
+wholeAt NoRead Lsb = true
+wholeAt NoRead Msb = true
+wholeAt NoRead LsbMsb = false
+wholeAt ReadLsb Lsb = true
+wholeAt ReadLsb Msb = true
+wholeAt ReadLsb LsbMsb = true
+
+-- "A low, a high or a word's second byte ends the latch."
+abbrev pub afterRead : Latch → RwMode → Latch
+afterRead l a =
+    cond (wholeAt (l .«read_state») a)
+    (record { «output_latch» = l .«output_latch»; «count_is_latched» = false; «read_state» = NoRead })
+    (record { «output_latch» = l .«output_latch»; «count_is_latched» = l .«count_is_latched»; «read_state» = ReadLsb })
+
+abbrev pub nextHalf : Channel → Half
+nextHalf c = halfAt (c .latch .«read_state») (c .control .«rw_mode»)
+
+-- the byte read, and the channel after it
+unfoldable pub readByte : Channel → ByteRead
+readByte c =
+    record {
+      byte = byteAt (nextHalf c) (c .latch .«output_latch»);
+      channel = withLatch c (afterRead (c .latch) (c .control .«rw_mode»));
+    }

@@ -1,0 +1,3 @@
+pub mod Finalize
+pub mod Write
+pub mod Cycle
