@@ -17,9 +17,7 @@ abbrev pub halfAt : ReadState → RwMode → Half
 halfAt NoRead Lsb = Low
 halfAt NoRead Msb = High
 halfAt NoRead LsbMsb = Low
-halfAt ReadLsb Lsb = High
-halfAt ReadLsb Msb = High
-halfAt ReadLsb LsbMsb = High
+halfAt ReadLsb a = High
 
 abbrev pub byteAt : Half → ℕ → ℕ
 byteAt Low v = v % 256
@@ -30,9 +28,7 @@ abbrev pub wholeAt : ReadState → RwMode → Bool
 wholeAt NoRead Lsb = true
 wholeAt NoRead Msb = true
 wholeAt NoRead LsbMsb = false
-wholeAt ReadLsb Lsb = true
-wholeAt ReadLsb Msb = true
-wholeAt ReadLsb LsbMsb = true
+wholeAt ReadLsb a = true
 
 -- "A low, a high or a word's second byte ends the latch."
 abbrev pub afterRead : Latch → RwMode → Latch

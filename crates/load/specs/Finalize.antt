@@ -41,11 +41,15 @@ completed l =
       armed = armedBy (l .«load_type») (l .armed);
     }
 
--- the state after a first and after a later load
-abbrev pub enterAfter : LoadType → Bool → Channel → Channel
-enterAfter InitialLoad defer c = changeChannelState c (firstState (c .reloading .«reload_on_trigger») defer)
-enterAfter SubsequentLoad defer c = cond (loadsAgain (c .control .mode)) (changeChannelState c (waitingState defer)) c
-
 -- "A complete load copies the count register to the reload value and sets dirty."
+unfoldable pub completeLoad : Channel → Channel
+completeLoad c = withDirty (withLoad c (completed (c .load))) true
+
+-- the state that a first and that a later load enter
+abbrev pub enterAfter : LoadType → Channel → Bool → Channel
+enterAfter InitialLoad c defer = changeChannelState (completeLoad c) (firstState (c .reloading .«reload_on_trigger») defer)
+enterAfter SubsequentLoad c defer =
+    cond (loadsAgain (c .control .mode)) (changeChannelState (completeLoad c) (waitingState defer)) (completeLoad c)
+
 unfoldable pub finalizeLoad : Channel → Bool → Channel
-finalizeLoad c defer = enterAfter (c .load .«load_type») defer (withDirty (withLoad c (completed (c .load))) true)
+finalizeLoad c defer = enterAfter (c .load .«load_type») c defer

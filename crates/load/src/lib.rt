@@ -8,7 +8,7 @@ use channel::LoadState;
 use channel::LoadType;
 use channel::RwMode;
 ghost use mathlib.Core.Path.{_≡_};
-ghost use Rattle.load.specs.Finalize.{waitingState, firstState, loadsAgain, armedBy, completed, finalizeLoad};
+ghost use Rattle.load.specs.Finalize.{waitingState, firstState, loadsAgain, armedBy, completed, completeLoad, finalizeLoad};
 ghost use Rattle.load.specs.Write.{stopsOnLowByte, putRegister, stopped, writeLow, writeByte};
 
 // The state in which a complete load waits for its load cycle.
@@ -85,6 +85,17 @@ fn complete(l: Load) -> Load
     }
 }
 
+fn complete_load(c: Channel) -> Channel
+    ensures { λ r. ⌜ r ≡ completeLoad c ⌝ }
+{
+    let l = c.load;
+    let load = complete(l);
+    let mut next = c;
+    next.load = load;
+    next.dirty = true;
+    next
+}
+
 pub fn finalize_load(c: Channel, defer_reload: bool) -> Channel
     ensures { λ r. ⌜ r ≡ finalizeLoad c «defer_reload» ⌝ }
 {
@@ -93,21 +104,18 @@ pub fn finalize_load(c: Channel, defer_reload: bool) -> Channel
     let rule = c.reloading;
     let l = c.load;
     let load_type = l.load_type;
-    let load = complete(l);
-    let mut next = c;
-    next.load = load;
-    next.dirty = true;
+    let loaded = complete_load(c);
     match load_type {
         LoadType::InitialLoad => {
             let state = first_state(rule.reload_on_trigger, defer_reload);
-            next.change_channel_state(state)
+            loaded.change_channel_state(state)
         }
         LoadType::SubsequentLoad => {
             if loads_again(mode) {
                 let state = waiting_state(defer_reload);
-                return next.change_channel_state(state);
+                return loaded.change_channel_state(state);
             }
-            next
+            loaded
         }
     }
 }

@@ -1,0 +1,12 @@
+-- `load::cycle::load_value` meets its contract. Assumes nothing.
+use mathlib.Core.Path.{refl}
+use Rattle.load.specs.Cycle.{loadValue}
+use Rattle.load.proofs.cycle.load_value.Statement.{statement}
+use Rattle.load.proofs.cycle.load_value.Tie as tie
+
+returns : tie.Need-returns
+unfolding loadValue
+returns c = refl
+
+pub load-value-spec : {M : Type 1} → statement M
+load-value-spec = tie.close (tie.spec returns)
