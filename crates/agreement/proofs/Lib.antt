@@ -1,0 +1,4 @@
+pub mod Words
+pub mod ControlWord
+pub mod Output
+pub mod Gate

@@ -1,0 +1,6 @@
+pub mod ControlWord
+pub mod Counting
+pub mod Reading
+pub mod Loading
+pub mod Output
+pub mod Gate
