@@ -1,4 +1,7 @@
 pub mod Words
 pub mod ControlWord
+pub mod Latching
+pub mod Reading
+pub mod Loading
 pub mod Output
 pub mod Gate

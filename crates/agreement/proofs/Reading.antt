@@ -1,0 +1,47 @@
+-- R1 and R2: the bytes that read an output latch out are the sheet's, in its order, and the last of them ends the latch.
+-- Where a word is half read in one-byte access, which no sequence of calls leads to, the sheet is silent and document 01 decides.
+-- Assumes nothing.
+use Prim.Native.Nat.{ℕ, zero, suc}
+use mathlib.Core.Path.{_≡_, refl}
+use mathlib.Core.Bool.{false}
+use mathlib.Core.List.{List, [], _∷_}
+use Rattle.channel.specs.declared.Channel.{Channel}
+use Rattle.channel.specs.declared.RwMode.{RwMode}
+use Rattle.channel.specs.declared.RwMode.the-variants.{Lsb, Msb, LsbMsb}
+use Rattle.channel.specs.declared.ReadState.the-variants.{NoRead}
+use Rattle.latch.specs.Reading.{readByte}
+use Rattle.sheet.specs.Reading.{readOut}
+use Rattle.sheet.specs.Loading.{bytesOf}
+use Rattle.agreement.proofs.Words.{accessWord}
+
+-- the bytes of k reads in a row, and the channel after them
+abbrev pub bytesRead : ℕ → Channel → List ℕ
+bytesRead zero c = []
+bytesRead (suc k) c = readByte c .byte ∷ bytesRead k (readByte c .channel)
+
+abbrev pub afterReads : ℕ → Channel → Channel
+afterReads zero c = c
+afterReads (suc k) c = afterReads k (readByte c .channel)
+
+pub read-agrees : (a : RwMode) (c : Channel) → c .control .«rw_mode» ≡ a → c .latch .«read_state» ≡ NoRead
+    → bytesRead (bytesOf (accessWord a)) c ≡ readOut (accessWord a) (c .latch .«output_latch»)
+unfolding readByte
+read-agrees Lsb c e h = simp (e, h)
+read-agrees Msb c e h = simp (e, h)
+read-agrees LsbMsb c e h = simp (e, h)
+
+-- R2: "reading it out ... ends the latch", and leaves no word half read
+pub reading-ends : (a : RwMode) (c : Channel) → c .control .«rw_mode» ≡ a → c .latch .«read_state» ≡ NoRead
+    → (afterReads (bytesOf (accessWord a)) c .latch .«count_is_latched» ≡ false)
+    × (afterReads (bytesOf (accessWord a)) c .latch .«read_state» ≡ NoRead)
+unfolding readByte
+reading-ends Lsb c e h = (simp (e, h), simp (e, h))
+reading-ends Msb c e h = (simp (e, h), simp (e, h))
+reading-ends LsbMsb c e h = (simp (e, h), simp (e, h))
+
+-- a word's first byte does not end it
+pub first-holds : (c : Channel) → c .control .«rw_mode» ≡ LsbMsb → c .latch .«read_state» ≡ NoRead
+    → (readByte c .channel .latch .«count_is_latched» ≡ c .latch .«count_is_latched»)
+    × (readByte c .channel .latch .«output_latch» ≡ c .latch .«output_latch»)
+unfolding readByte
+first-holds c e h = (simp (e, h), simp (e, h))
