@@ -10,7 +10,7 @@ use Rattle.channel.specs.Modes.{modeNumber}
 use Rattle.control.specs.declared.Command.the-variants.{Nothing, Latch, SetMode}
 use Rattle.control.specs.Control.{channelBits, accessBits, modeBits, accessOf, modeOf, commandOf}
 use Rattle.sheet.specs.ControlWord as sheet
-use Rattle.numbers.proofs.Below.{below}
+use Rattle.numbers.proofs.Below.{equal-below}
 use Rattle.agreement.proofs.Words.{accessWord, commandWord}
 
 -- a command's word goes by the same tests as the command
@@ -30,7 +30,7 @@ access-by-tests false false = refl
 
 -- the three mode bits: one test over all eight
 mode-agrees : (n : ℕ) → n < 8 → modeNumber (modeOf n) ≡ sheet.modeOf (n / 4) (n / 2 % 2) (n % 2)
-mode-agrees = below (λ n. modeNumber (modeOf n)) (λ n. sheet.modeOf (n / 4) (n / 2 % 2) (n % 2)) 8 tt
+mode-agrees = equal-below (λ n. modeNumber (modeOf n)) (λ n. sheet.modeOf (n / 4) (n / 2 % 2) (n % 2)) 8 tt
 
 select-agrees : (byte : ℕ) → byte < 256 → sheet.select byte ≡ channelBits byte
 select-agrees byte h = omega arith

@@ -1,5 +1,6 @@
 pub mod Words
 pub mod ControlWord
+pub mod Counting
 pub mod Latching
 pub mod Reading
 pub mod Loading

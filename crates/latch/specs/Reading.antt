@@ -8,9 +8,9 @@ use Rattle.channel.specs.declared.RwMode.the-variants.{Lsb, Msb, LsbMsb}
 use Rattle.channel.specs.declared.ReadState.{ReadState}
 use Rattle.channel.specs.declared.ReadState.the-variants.{NoRead, ReadLsb}
 use Rattle.channel.specs.Record.{withLatch}
-use Rattle.latch.specs.declared.Half.{Half}
-use Rattle.latch.specs.declared.Half.the-variants.{Low, High}
-use Rattle.latch.specs.declared.ByteRead.{ByteRead}
+use Rattle.latch.specs.declared.reading.Half.{Half}
+use Rattle.latch.specs.declared.reading.Half.the-variants.{Low, High}
+use Rattle.latch.specs.declared.reading.ByteRead.{ByteRead}
 
 -- "Reads come from the output latch: low, high, or low then high; in any access a half-read word gives its high byte next."
 abbrev pub halfAt : ReadState → RwMode → Half

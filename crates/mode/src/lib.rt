@@ -28,29 +28,29 @@ fn output_after(mode: ChannelMode) -> bool
     }
 }
 
-fn output_on_reload(mode: ChannelMode, was: bool) -> bool
-    ensures { λ r. ⌜ r ≡ outputOnReload was mode ⌝ }
+fn output_on_reload(mode: ChannelMode, level: bool) -> bool
+    ensures { λ r. ⌜ r ≡ outputOnReload level mode ⌝ }
 {
     match mode {
         ChannelMode::InterruptOnTerminalCount => false,
         ChannelMode::HardwareRetriggerableOneShot => false,
         ChannelMode::RateGenerator => true,
         ChannelMode::SquareWaveGenerator => true,
-        ChannelMode::SoftwareTriggeredStrobe => was,
-        ChannelMode::HardwareTriggeredStrobe => was,
+        ChannelMode::SoftwareTriggeredStrobe => level,
+        ChannelMode::HardwareTriggeredStrobe => level,
     }
 }
 
-fn reload_on_trigger(mode: ChannelMode, was: bool) -> bool
-    ensures { λ r. ⌜ r ≡ reloadOnTrigger was mode ⌝ }
+fn reload_on_trigger(mode: ChannelMode, waits: bool) -> bool
+    ensures { λ r. ⌜ r ≡ reloadOnTrigger waits mode ⌝ }
 {
     match mode {
         ChannelMode::InterruptOnTerminalCount => false,
         ChannelMode::HardwareRetriggerableOneShot => true,
         ChannelMode::RateGenerator => false,
         ChannelMode::SquareWaveGenerator => false,
-        ChannelMode::SoftwareTriggeredStrobe => was,
-        ChannelMode::HardwareTriggeredStrobe => was,
+        ChannelMode::SoftwareTriggeredStrobe => waits,
+        ChannelMode::HardwareTriggeredStrobe => waits,
     }
 }
 
@@ -63,16 +63,16 @@ fn square_mask(model: PitType) -> u16
     }
 }
 
-fn load_mask(mode: ChannelMode, model: PitType, was: u16) -> u16
-    ensures { λ r. ⌜ r ≡ loadMask model was mode ⌝ }
+fn load_mask(mode: ChannelMode, model: PitType, mask: u16) -> u16
+    ensures { λ r. ⌜ r ≡ loadMask model mask mode ⌝ }
 {
     match mode {
-        ChannelMode::InterruptOnTerminalCount => was,
-        ChannelMode::HardwareRetriggerableOneShot => was,
-        ChannelMode::RateGenerator => was,
+        ChannelMode::InterruptOnTerminalCount => mask,
+        ChannelMode::HardwareRetriggerableOneShot => mask,
+        ChannelMode::RateGenerator => mask,
         ChannelMode::SquareWaveGenerator => square_mask(model),
-        ChannelMode::SoftwareTriggeredStrobe => was,
-        ChannelMode::HardwareTriggeredStrobe => was,
+        ChannelMode::SoftwareTriggeredStrobe => mask,
+        ChannelMode::HardwareTriggeredStrobe => mask,
     }
 }
 

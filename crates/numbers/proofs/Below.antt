@@ -23,10 +23,10 @@ abbrev pub same-below : (ℕ → ℕ) → (ℕ → ℕ) → ℕ → Bool
 same-below f g zero = true
 same-below f g (suc k) = both (eqb (f k) (g k)) (same-below f g k)
 
-pub below : (f g : ℕ → ℕ) (k : ℕ) → T (same-below f g k) → (n : ℕ) → n < k → f n ≡ g n
-below f g zero t n h = absurd (not-suc-le-zero h)
-below f g (suc k) t n h =
+pub equal-below : (f g : ℕ → ℕ) (k : ℕ) → T (same-below f g k) → (n : ℕ) → n < k → f n ≡ g n
+equal-below f g zero t n h = absurd (not-suc-le-zero h)
+equal-below f g (suc k) t n h =
     ⊎-elim
     (λ (e : n ≡ k). subst (λ (i : ℕ). f i ≡ g i) (sym e) (eqb→eq (f k) (g k) (both-first (eqb (f k) (g k)) (same-below f g k) t)))
-    (λ (l : n < k). below f g k (both-second (eqb (f k) (g k)) (same-below f g k) t) n l)
+    (λ (l : n < k). equal-below f g k (both-second (eqb (f k) (g k)) (same-below f g k) t) n l)
     (eq-or-lt-of-le (le-of-suc-le-suc h))

@@ -1,7 +1,7 @@
--- `load::complete` meets its contract. Assumes nothing.
+-- `load::finalize::complete` meets its contract. Assumes nothing.
 use borrow.Author.Needs.{needs}
-use Rattle.load.proofs.complete.Statement.{statement}
-use Rattle.load.proofs.complete.Tie as tie
+use Rattle.load.proofs.finalize.complete.Statement.{statement}
+use Rattle.load.proofs.finalize.complete.Tie as tie
 
 returns : tie.Need-returns
 returns c = simp (c .armed-by .ensures)

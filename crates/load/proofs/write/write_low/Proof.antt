@@ -1,8 +1,8 @@
--- `load::write_low` meets its contract. Assumes nothing.
+-- `load::write::write_low` meets its contract. Assumes nothing.
 use mathlib.Core.Path.{sym, _∙_}
 use borrow.Author.Needs.{needs}
-use Rattle.load.proofs.write_low.Statement.{statement}
-use Rattle.load.proofs.write_low.Tie as tie
+use Rattle.load.proofs.write.write_low.Statement.{statement}
+use Rattle.load.proofs.write.write_low.Tie as tie
 
 returns : tie.Need-returns
 returns c = simp (c .stop .ensures, sym (c .before .before .stops-on-low-byte .ensures) ∙ c .before .if1 .taken, c .before .before .before .put-register .ensures, c .before .before .before .before .wide .ensures)

@@ -1,9 +1,9 @@
--- `load::finalize_load` meets its contract. Assumes nothing.
+-- `load::finalize::finalize_load` meets its contract. Assumes nothing.
 use mathlib.Core.Path.{sym, _∙_}
 use borrow.Author.Needs.{needs}
 use Rattle.load.specs.Finalize.{finalizeLoad}
-use Rattle.load.proofs.finalize_load.Statement.{statement}
-use Rattle.load.proofs.finalize_load.Tie as tie
+use Rattle.load.proofs.finalize.finalize_load.Statement.{statement}
+use Rattle.load.proofs.finalize.finalize_load.Tie as tie
 
 returns : tie.Need-returns
 unfolding finalizeLoad

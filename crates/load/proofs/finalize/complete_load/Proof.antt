@@ -1,8 +1,8 @@
--- `load::complete_load` meets its contract. Assumes nothing.
+-- `load::finalize::complete_load` meets its contract. Assumes nothing.
 use borrow.Author.Needs.{needs}
 use Rattle.load.specs.Finalize.{completeLoad}
-use Rattle.load.proofs.complete_load.Statement.{statement}
-use Rattle.load.proofs.complete_load.Tie as tie
+use Rattle.load.proofs.finalize.complete_load.Statement.{statement}
+use Rattle.load.proofs.finalize.complete_load.Tie as tie
 
 returns : tie.Need-returns
 unfolding completeLoad

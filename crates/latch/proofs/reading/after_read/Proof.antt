@@ -1,8 +1,8 @@
--- `latch::after_read` meets its contract. Assumes nothing.
+-- `latch::reading::after_read` meets its contract. Assumes nothing.
 use mathlib.Core.Path.{sym, _∙_}
 use borrow.Author.Needs.{needs}
-use Rattle.latch.proofs.after_read.Statement.{statement}
-use Rattle.latch.proofs.after_read.Tie as tie
+use Rattle.latch.proofs.reading.after_read.Statement.{statement}
+use Rattle.latch.proofs.reading.after_read.Tie as tie
 
 returns : tie.Need-returns
 returns c = simp (sym (c .before .whole-at .ensures) ∙ c .if1 .taken)

@@ -1,7 +1,7 @@
--- `load::stop` meets its contract. Assumes nothing.
+-- `load::write::stop` meets its contract. Assumes nothing.
 use borrow.Author.Needs.{needs}
-use Rattle.load.proofs.stop.Statement.{statement}
-use Rattle.load.proofs.stop.Tie as tie
+use Rattle.load.proofs.write.stop.Statement.{statement}
+use Rattle.load.proofs.write.stop.Tie as tie
 
 returns : tie.Need-returns
 returns c = simp (c .change-channel-state .ensures, c .before .change-output-state .ensures)

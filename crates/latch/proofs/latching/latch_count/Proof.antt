@@ -1,8 +1,8 @@
--- `latch::latch_count` meets its contract. Assumes nothing.
+-- `latch::latching::latch_count` meets its contract. Assumes nothing.
 use mathlib.Core.Path.{refl}
 use Rattle.latch.specs.Latching.{latchCount}
-use Rattle.latch.proofs.latch_count.Statement.{statement}
-use Rattle.latch.proofs.latch_count.Tie as tie
+use Rattle.latch.proofs.latching.latch_count.Statement.{statement}
+use Rattle.latch.proofs.latching.latch_count.Tie as tie
 
 returns : tie.Need-returns
 unfolding latchCount

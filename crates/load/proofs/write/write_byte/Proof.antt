@@ -1,8 +1,8 @@
--- `load::write_byte` meets its contract. Assumes nothing.
+-- `load::write::write_byte` meets its contract. Assumes nothing.
 use borrow.Author.Needs.{needs}
 use Rattle.load.specs.Write.{writeByte}
-use Rattle.load.proofs.write_byte.Statement.{statement}
-use Rattle.load.proofs.write_byte.Tie as tie
+use Rattle.load.proofs.write.write_byte.Statement.{statement}
+use Rattle.load.proofs.write.write_byte.Tie as tie
 
 returns : tie.Need-returns
 unfolding writeByte

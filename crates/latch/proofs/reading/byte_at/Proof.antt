@@ -1,7 +1,7 @@
--- `latch::byte_at` meets its contract. Assumes nothing.
+-- `latch::reading::byte_at` meets its contract. Assumes nothing.
 use borrow.Author.Needs.{needs}
-use Rattle.latch.proofs.byte_at.Statement.{statement}
-use Rattle.latch.proofs.byte_at.Tie as tie
+use Rattle.latch.proofs.reading.byte_at.Statement.{statement}
+use Rattle.latch.proofs.reading.byte_at.Tie as tie
 
 returns : tie.Need-returns
 returns c = simp (c .enum-told .given .1)

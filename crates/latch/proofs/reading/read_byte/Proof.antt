@@ -1,8 +1,8 @@
--- `latch::read_byte` meets its contract. Assumes nothing.
+-- `latch::reading::read_byte` meets its contract. Assumes nothing.
 use borrow.Author.Needs.{needs}
 use Rattle.latch.specs.Reading.{readByte}
-use Rattle.latch.proofs.read_byte.Statement.{statement}
-use Rattle.latch.proofs.read_byte.Tie as tie
+use Rattle.latch.proofs.reading.read_byte.Statement.{statement}
+use Rattle.latch.proofs.reading.read_byte.Tie as tie
 
 returns : tie.Need-returns
 unfolding readByte

@@ -1,8 +1,8 @@
--- `load::put_register` meets its contract. Assumes nothing.
+-- `load::write::put_register` meets its contract. Assumes nothing.
 use mathlib.Core.Path.{refl}
 use Rattle.load.specs.Write.{putRegister}
-use Rattle.load.proofs.put_register.Statement.{statement}
-use Rattle.load.proofs.put_register.Tie as tie
+use Rattle.load.proofs.write.put_register.Statement.{statement}
+use Rattle.load.proofs.write.put_register.Tie as tie
 
 returns : tie.Need-returns
 unfolding putRegister

@@ -1,0 +1,100 @@
+// Reads of a channel's data port.
+use channel::Channel;
+use channel::Latch;
+use channel::ReadState;
+use channel::RwMode;
+ghost use mathlib.Core.Path.{_≡_};
+ghost use Rattle.latch.specs.Reading.{halfAt, byteAt, wholeAt, afterRead, nextHalf, readByte};
+
+// Which half of the output latch a read gives.
+pub enum Half {
+    Low,
+    High,
+}
+
+pub struct ByteRead {
+    pub byte: u8,
+    pub channel: Channel,
+}
+
+fn half_at(read_state: ReadState, rw_mode: RwMode) -> Half
+    ensures { λ r. ⌜ r ≡ halfAt «read_state» «rw_mode» ⌝ }
+{
+    match read_state {
+        ReadState::NoRead => match rw_mode {
+            RwMode::Lsb => Half::Low,
+            RwMode::Msb => Half::High,
+            RwMode::LsbMsb => Half::Low,
+        },
+        ReadState::ReadLsb => Half::High,
+    }
+}
+
+// Whether a read is the whole of what is due, or the second byte of it: not the first of a word.
+fn whole_at(read_state: ReadState, rw_mode: RwMode) -> bool
+    ensures { λ r. ⌜ r ≡ wholeAt «read_state» «rw_mode» ⌝ }
+{
+    match read_state {
+        ReadState::NoRead => match rw_mode {
+            RwMode::Lsb => true,
+            RwMode::Msb => true,
+            RwMode::LsbMsb => false,
+        },
+        ReadState::ReadLsb => true,
+    }
+}
+
+fn byte_at(half: Half, value: u16) -> u8
+    ensures { λ r. ⌜ r ≡ byteAt half value ⌝ }
+{
+    match half {
+        Half::Low => (value % 256) as u8,
+        Half::High => (value / 256) as u8,
+    }
+}
+
+// The half that the next read of the channel gives.
+pub fn next_half(c: Channel) -> Half
+    ensures { λ r. ⌜ r ≡ nextHalf c ⌝ }
+{
+    let l = c.latch;
+    let w = c.control;
+    let read_state = l.read_state;
+    let rw_mode = w.rw_mode;
+    half_at(read_state, rw_mode)
+}
+
+fn after_read(l: Latch, rw_mode: RwMode) -> Latch
+    ensures { λ r. ⌜ r ≡ afterRead l «rw_mode» ⌝ }
+{
+    let read_state = l.read_state;
+    if whole_at(read_state, rw_mode) {
+        return Latch {
+            output_latch: l.output_latch,
+            count_is_latched: false,
+            read_state: ReadState::NoRead,
+        };
+    }
+    Latch {
+        output_latch: l.output_latch,
+        count_is_latched: l.count_is_latched,
+        read_state: ReadState::ReadLsb,
+    }
+}
+
+pub fn read_byte(c: Channel) -> ByteRead
+    ensures { λ r. ⌜ r ≡ readByte c ⌝ }
+{
+    let l = c.latch;
+    let w = c.control;
+    let rw_mode = w.rw_mode;
+    let half = next_half(c);
+    let byte = byte_at(half, l.output_latch);
+    let latch = after_read(l, rw_mode);
+    let mut next = c;
+    next.latch = latch;
+    ByteRead {
+        byte,
+        channel: next,
+    }
+}
