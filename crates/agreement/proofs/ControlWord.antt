@@ -11,7 +11,7 @@ use Rattle.control.specs.declared.Command.the-variants.{Nothing, Latch, SetMode
 use Rattle.control.specs.Control.{channelBits, accessBits, modeBits, accessOf, modeOf, commandOf}
 use Rattle.sheet.specs.ControlWord as sheet
 use Rattle.numbers.proofs.Below.{equal-below}
-use Rattle.agreement.proofs.Words.{accessWord, commandWord}
+use Rattle.agreement.specs.Words.{accessWord, commandWord}
 
 -- a command's word goes by the same tests as the command
 by-tests : (none latch : Bool) (n : ℕ) (w : ControlWord)

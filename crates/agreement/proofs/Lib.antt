@@ -1,4 +1,3 @@
-pub mod Words
 pub mod ControlWord
 pub mod Counting
 pub mod Latching

@@ -1,10 +1,8 @@
 -- R1 and R2: the bytes that read an output latch out are the sheet's, in its order, and the last of them ends the latch.
 -- Where a word is half read in one-byte access, which no sequence of calls leads to, the sheet is silent and document 01 decides.
 -- Assumes nothing.
-use Prim.Native.Nat.{ℕ, zero, suc}
 use mathlib.Core.Path.{_≡_, refl}
 use mathlib.Core.Bool.{false}
-use mathlib.Core.List.{List, [], _∷_}
 use Rattle.channel.specs.declared.Channel.{Channel}
 use Rattle.channel.specs.declared.RwMode.{RwMode}
 use Rattle.channel.specs.declared.RwMode.the-variants.{Lsb, Msb, LsbMsb}
@@ -12,16 +10,8 @@ use Rattle.channel.specs.declared.ReadState.the-variants.{NoRead}
 use Rattle.latch.specs.Reading.{readByte}
 use Rattle.sheet.specs.Reading.{readOut}
 use Rattle.sheet.specs.Loading.{bytesOf}
-use Rattle.agreement.proofs.Words.{accessWord}
-
--- the bytes of k reads in a row, and the channel after them
-abbrev pub bytesRead : ℕ → Channel → List ℕ
-bytesRead zero c = []
-bytesRead (suc k) c = readByte c .byte ∷ bytesRead k (readByte c .channel)
-
-abbrev pub afterReads : ℕ → Channel → Channel
-afterReads zero c = c
-afterReads (suc k) c = afterReads k (readByte c .channel)
+use Rattle.agreement.specs.Words.{accessWord}
+use Rattle.agreement.specs.Reads.{bytesRead, afterReads}
 
 pub read-agrees : (a : RwMode) (c : Channel) → c .control .«rw_mode» ≡ a → c .latch .«read_state» ≡ NoRead
     → bytesRead (bytesOf (accessWord a)) c ≡ readOut (accessWord a) (c .latch .«output_latch»)

@@ -14,7 +14,7 @@ cancel m v n pos =
     rw (← add-mod-mod (v + (m - n % m)) n m, s) (add-mod-right v m)
 
 pub below : (m v n : ℕ) → 0 < m → minusMod m v n < m
-below m v n pos = mod-lt (v + (m - n % m)) pos
+below m v n pos = mod-lt _ pos
 
 pub back : (m v n : ℕ) → 0 < m → (minusMod m v n + n) % m ≡ v % m
 back m v n pos = rw mod-add-mod (cancel m v n pos)

@@ -1,4 +1,4 @@
--- Document 01's words in the sheet's: an access, a command. Assumes nothing.
+-- Document 01's words in the sheet's: an access, a command. The theorems of proofs/ hold of the two documents in these words.
 use Rattle.channel.specs.declared.RwMode.{RwMode}
 use Rattle.channel.specs.declared.RwMode.the-variants.{Lsb, Msb, LsbMsb}
 use Rattle.channel.specs.Modes.{modeNumber}
