@@ -17,7 +17,7 @@ use Rattle.agreement.specs.Words.{accessWord, commandWord}
 by-tests : (none latch : Bool) (n : ℕ) (w : ControlWord)
     → commandWord (cond none Nothing (cond latch (Latch n) (SetMode n w)))
     ≡ cond none sheet.noCounter
-      (cond latch (sheet.latchCounter n) (sheet.program n (accessWord (w .«rw_mode»)) (modeNumber (w .mode)) (w .«bcd_mode»)))
+    (cond latch (sheet.latchCounter n) (sheet.program n (accessWord (w .«rw_mode»)) (modeNumber (w .mode)) (w .«bcd_mode»)))
 by-tests true latch n w = refl
 by-tests false true n w = refl
 by-tests false false n w = refl

@@ -4,9 +4,14 @@ use Rattle.channel.specs.declared.Channel.{Channel}
 use Rattle.channel.specs.declared.ChannelMode.the-variants.{InterruptOnTerminalCount}
 use Rattle.channel.specs.declared.RwMode.the-variants.{LsbMsb}
 use Rattle.channel.specs.declared.ChannelState.the-variants.{WaitingForReload}
+use Rattle.channel.specs.declared.Load.{Load}
 use Rattle.channel.specs.declared.LoadState.the-variants.{WaitingForLsb}
 use Rattle.channel.specs.declared.LoadType.the-variants.{InitialLoad}
 use Rattle.channel.specs.declared.ReadState.the-variants.{NoRead}
+
+-- "first load, waiting for the low byte", "numbers 0, flags false"
+abbrev pub freshLoad : Load
+freshLoad = record { «count_register» = 0; «reload_value» = 0; «load_state» = WaitingForLsb; «load_type» = InitialLoad; armed = false }
 
 -- "mode 0, low-then-high access, `WaitingForReload`, gate high, output low, load mask 0xFFFF, numbers 0, flags false, first load,
 -- waiting for the low byte, no read", with the gate at a level of its own
@@ -15,7 +20,7 @@ freshAt level =
     record {
       control = record { mode = InterruptOnTerminalCount; «rw_mode» = LsbMsb; «bcd_mode» = false };
       reloading = record { «output_on_reload» = false; «reload_on_trigger» = false; «load_mask» = 0xFFFF };
-      load = record { «count_register» = 0; «reload_value» = 0; «load_state» = WaitingForLsb; «load_type» = InitialLoad; armed = false };
+      load = freshLoad;
       counter = record { «channel_state» = WaitingForReload; «cycles_in_state» = 0; «counting_element» = 0; ticked = false };
       latch = record { «output_latch» = 0; «count_is_latched» = false; «read_state» = NoRead };
       pins = record { gate = level; output = false };

@@ -13,7 +13,21 @@ use crate::ReadState;
 use crate::Reloading;
 use crate::RwMode;
 ghost use mathlib.Core.Path.{_≡_};
-ghost use Rattle.channel.specs.Fresh.{fresh, freshAt, reset};
+ghost use Rattle.channel.specs.Fresh.{freshLoad, freshAt, fresh, reset};
+
+impl Load {
+    fn fresh() -> Load
+        ensures { λ r. ⌜ r ≡ freshLoad ⌝ }
+    {
+        Load {
+            count_register: 0,
+            reload_value: 0,
+            load_state: LoadState::WaitingForLsb,
+            load_type: LoadType::InitialLoad,
+            armed: false,
+        }
+    }
+}
 
 impl Channel {
     pub fn fresh() -> Channel
@@ -36,13 +50,7 @@ impl Channel {
             reload_on_trigger: false,
             load_mask: 0xFFFF,
         };
-        let load = Load {
-            count_register: 0,
-            reload_value: 0,
-            load_state: LoadState::WaitingForLsb,
-            load_type: LoadType::InitialLoad,
-            armed: false,
-        };
+        let load = Load::fresh();
         let counter = Counter {
             channel_state: ChannelState::WaitingForReload,
             cycles_in_state: 0,

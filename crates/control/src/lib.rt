@@ -33,7 +33,11 @@ fn mode_of(n: u8) -> ChannelMode
     requires { ⌜ n < 8 ⌝ }
     ensures { λ r. ⌜ r ≡ modeOf n ⌝ }
 {
-    if 5 < n { first_modes(n - 4) } else { first_modes(n) }
+    if 5 < n {
+        first_modes(n - 4)
+    } else {
+        first_modes(n)
+    }
 }
 
 fn access_of(n: u8) -> RwMode

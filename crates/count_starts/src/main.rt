@@ -1,11 +1,57 @@
 // Runs one count from each of the 65,536 starts, in both radixes, latched and not, against a recomputation that goes digit by digit and
 // shares no code with the crate `count`, and prints how many of them differ.
-mod digits;
 use channel::Channel;
 use libc::STDOUT_FILENO;
+ghost use Prim.Native.Nat.{_<_};
 
 // Stands in the output latch before the count, to be seen where the latch must not follow.
 const OLD_LATCH: u16 = 0x5AA5;
+
+// A count is made as on paper: the ones give one; a digit that is 0 becomes the highest and borrows from the next.
+struct Place {
+    digit: u16,
+    borrows: bool,
+}
+
+fn give(digit: u16, asked: bool, highest: u16) -> Place
+    requires { ⌜ (digit < 16) × (highest < 16) ⌝ }
+    ensures { λ r. ⌜ r .digit < 16 ⌝ }
+{
+    if !asked {
+        return Place {
+            digit,
+            borrows: false,
+        };
+    }
+    if digit == 0 {
+        return Place {
+            digit: highest,
+            borrows: true,
+        };
+    }
+    Place {
+        digit: digit - 1,
+        borrows: false,
+    }
+}
+
+fn in_digits(element: u16, highest: u16) -> u16
+    requires { ⌜ highest < 16 ⌝ }
+{
+    let ones = give(element % 16, true, highest);
+    let tens = give(element / 16 % 16, ones.borrows, highest);
+    let hundreds = give(element / 16 / 16 % 16, tens.borrows, highest);
+    let thousands = give(element / 16 / 16 / 16 % 16, hundreds.borrows, highest);
+    ones.digit + 16 * (tens.digit + 16 * (hundreds.digit + 16 * thousands.digit))
+}
+
+// The highest digit is 9 in BCD; a binary number is four digits of which the highest is 15.
+fn on_paper(element: u16, bcd: bool) -> u16 {
+    if bcd {
+        return in_digits(element, 9);
+    }
+    in_digits(element, 15)
+}
 
 fn counted(element: u16, bcd: bool, latched: bool) -> Channel {
     let mut c = Channel::fresh();
@@ -22,7 +68,7 @@ fn differs(start: u32, bcd: bool, latched: bool) -> bool {
     let c = counted(element, bcd, latched);
     let k = c.counter;
     let l = c.latch;
-    let right = digits::counted(element, bcd);
+    let right = on_paper(element, bcd);
     if k.counting_element != right {
         return true;
     }

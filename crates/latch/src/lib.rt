@@ -1,6 +1,7 @@
 // Latching a count, and reading it byte by byte.
 mod latching;
 mod reading;
+
 pub use latching::latch_count;
 pub use reading::ByteRead;
 pub use reading::Half;

@@ -2,6 +2,7 @@
 mod cycle;
 mod finalize;
 mod write;
+
 pub use cycle::load_cycle;
 pub use cycle::load_value;
 pub use finalize::finalize_load;

@@ -82,7 +82,10 @@ pub fn write_byte(c: Channel, byte: u8, defer_reload: bool) -> Channel
             LoadState::WaitingForLsb => write_low(c, byte),
             LoadState::WaitingForMsb => {
                 let word = l.count_register % 256 + value * 256;
-                finalize_load(put_register(c, word, LoadState::WaitingForLsb), defer_reload)
+                finalize_load(
+                    put_register(c, word, LoadState::WaitingForLsb),
+                    defer_reload,
+                )
             }
         },
     }

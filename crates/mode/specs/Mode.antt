@@ -49,13 +49,13 @@ setMode c word model =
       control = word;
       reloading = reloadingOf (c .reloading) (word .mode) model;
       load =
-        record {
-          «count_register» = c .load .«count_register»;
-          «reload_value» = c .load .«reload_value»;
-          «load_state» = WaitingForLsb;
-          «load_type» = InitialLoad;
-          armed = false;
-        };
+          record {
+            «count_register» = c .load .«count_register»;
+            «reload_value» = c .load .«reload_value»;
+            «load_state» = WaitingForLsb;
+            «load_type» = InitialLoad;
+            armed = false;
+          };
       counter = record { «channel_state» = WaitingForReload; «cycles_in_state» = 0; «counting_element» = 0; ticked = c .counter .ticked };
       latch = record { «output_latch» = c .latch .«output_latch»; «count_is_latched» = false; «read_state» = NoRead };
       pins = record { gate = c .pins .gate; output = outputAfter (word .mode) };

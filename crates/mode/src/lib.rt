@@ -118,7 +118,10 @@ pub fn set_mode(c: Channel, control: ControlWord, model: PitType) -> Channel
     };
     let p = c.pins;
     let output = output_after(mode);
-    let pins = Pins { gate: p.gate, output };
+    let pins = Pins {
+        gate: p.gate,
+        output,
+    };
     Channel {
         control,
         reloading,
