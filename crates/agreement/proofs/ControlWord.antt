@@ -1,5 +1,5 @@
 -- C1, C2, C3: document 01's command for a control byte is what the sheet reads off its bits. Assumes nothing.
-use Prim.Native.Nat.{ℕ, _+_, _*_, _/_, _%_, _<_}
+use Prim.Native.Nat.{ℕ, _/_, _%_, _<_}
 use mathlib.Core.Path.{_≡_, refl}
 use mathlib.Core.Bool.{Bool, true, false, cond}
 use native.Mathlib.Omega.{arith}
@@ -8,7 +8,7 @@ use Rattle.channel.specs.declared.ControlWord.{ControlWord}
 use Rattle.channel.specs.declared.RwMode.the-variants.{Lsb, Msb, LsbMsb}
 use Rattle.channel.specs.Modes.{modeNumber}
 use Rattle.control.specs.declared.Command.the-variants.{Nothing, Latch, SetMode}
-use Rattle.control.specs.Control.{channelBits, accessBits, modeBits, accessOf, modeOf, commandOf}
+use Rattle.control.specs.Control.{channelBits, accessBits, modeBits, modeOf, commandOf}
 use Rattle.sheet.specs.ControlWord as sheet
 use Rattle.numbers.proofs.Below.{equal-below}
 use Rattle.agreement.specs.Words.{accessWord, commandWord}

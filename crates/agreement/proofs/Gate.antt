@@ -1,12 +1,10 @@
 -- G0 to G5: what an edge of the gate does to document 01's record is what the sheets' table says, unless the channel waits for a
 -- reload, where the edge is ignored (docs/DIFFERENCES.md). In mode 0 the table's "stops counting" is not in the state: the level that
 -- is stored stops the ticks. Assumes nothing.
-use Prim.Native.Nat.{ℕ}
 use mathlib.Core.Path.{_≡_, refl, _∙_}
 use mathlib.Core.Bool.{Bool, true, false, cond}
 use Rattle.channel.specs.declared.Channel.{Channel}
 use Rattle.channel.specs.declared.ChannelMode.{ChannelMode}
-use Rattle.channel.specs.declared.ChannelState.{ChannelState}
 use Rattle.channel.specs.declared.ChannelState.the-variants.{WaitingForGate, WaitingForLoadCycle}
 use Rattle.channel.specs.Modes.{modeNumber}
 use Rattle.channel.specs.Shared.{changeChannelState, changeOutputState}

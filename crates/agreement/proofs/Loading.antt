@@ -10,13 +10,12 @@ use Rattle.channel.specs.declared.ChannelState.the-variants.{WaitingForReload}
 use Rattle.channel.specs.declared.ChannelMode.the-variants.{InterruptOnTerminalCount}
 use Rattle.channel.specs.declared.RwMode.the-variants.{LsbMsb}
 use Rattle.channel.specs.declared.Load.{Load}
-use Rattle.channel.specs.declared.LoadState.{LoadState}
 use Rattle.channel.specs.declared.LoadState.the-variants.{WaitingForLsb, WaitingForMsb}
 use Rattle.channel.specs.declared.LoadType.{LoadType}
 use Rattle.channel.specs.declared.LoadType.the-variants.{InitialLoad, SubsequentLoad}
 use Rattle.channel.specs.Shared.{changeChannelState, changeOutputState}
 use Rattle.load.specs.Finalize.{completeLoad, enterAfter, finalizeLoad, loadsAgain, waitingState}
-use Rattle.load.specs.Write.{putRegister, stopsOnLowByte, stopped, writeLow, writeByte}
+use Rattle.load.specs.Write.{putRegister, stopsOnLowByte, stopped, writeByte}
 use Rattle.sheet.specs.Loading.{countOf}
 
 -- a complete load's reload value is the count register, whatever state it enters

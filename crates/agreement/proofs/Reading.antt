@@ -1,7 +1,7 @@
 -- R1 and R2: the bytes that read an output latch out are the sheet's, in its order, and the last of them ends the latch.
 -- Where a word is half read in one-byte access, which no sequence of calls leads to, the sheet is silent and document 01 decides.
 -- Assumes nothing.
-use mathlib.Core.Path.{_≡_, refl}
+use mathlib.Core.Path.{_≡_}
 use mathlib.Core.Bool.{false}
 use Rattle.channel.specs.declared.Channel.{Channel}
 use Rattle.channel.specs.declared.RwMode.{RwMode}

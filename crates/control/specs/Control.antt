@@ -1,7 +1,7 @@
 -- Document 01, "Control byte": what a byte written to the command port asks for.
 use Prim.Native.Nat.{ℕ, _-_, _/_, _%_}
 use mathlib.Core.Bool.{Bool, cond}
-use mathlib.Core.List.{List, [], _∷_}
+use mathlib.Core.List.{[], _∷_}
 use lib.Dec.{eqb, ltb}
 use lib.ListN.{getD}
 use Rattle.channel.specs.declared.ControlWord.{ControlWord}

@@ -1,7 +1,7 @@
 -- What an edge of the gate does, mode by mode: lines G0 to G5 of docs/SHEETS.md.
 use Prim.Native.Nat.{ℕ}
 use mathlib.Core.Bool.{Bool, true, false}
-use mathlib.Core.List.{List, [], _∷_}
+use mathlib.Core.List.{[], _∷_}
 use lib.ListN.{getD}
 
 -- the words of the table: "stops counting", "output high at once", "load on the next tick"
