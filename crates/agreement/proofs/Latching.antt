@@ -8,16 +8,11 @@ use Rattle.channel.specs.declared.ControlWord.{ControlWord}
 use Rattle.channel.specs.declared.PitType.{PitType}
 use Rattle.channel.specs.Shared.{putElement}
 use Rattle.count.specs.Count.{count}
+use Rattle.count.proofs.Held.{held-after}
 use Rattle.latch.specs.Latching.{latchCount}
 use Rattle.mode.specs.Mode.{setMode}
 use Rattle.numbers.specs.Times.{times}
 use Rattle.sheet.specs.Reading.{valueRead}
-
--- a count changes neither the radix nor the latch's hold, and leaves a held latch as it was
-held-after : (n : ℕ) (c : Channel) → c .latch .«count_is_latched» ≡ true → times n count c .latch ≡ c .latch
-unfolding count putElement
-held-after zero c h = refl
-held-after (suc n) c h = simp (held-after n c h, h)
 
 -- the counting element does not see the latch
 unseen : (n : ℕ) (c : Channel) → (times n count (latchCount c) .counter ≡ times n count c .counter) × (times n count (latchCount c) .control ≡ times n count c .control)

@@ -3,3 +3,4 @@ pub mod Modes
 pub mod Shared
 pub mod Fresh
 pub mod Queries
+pub mod Kept
