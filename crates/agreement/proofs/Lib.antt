@@ -1,7 +1,7 @@
-pub mod ControlWord
+pub mod ControlByte
 pub mod Counting
-pub mod Latching
 pub mod Reading
+pub mod Latching
 pub mod Loading
 pub mod Output
 pub mod Gate

@@ -1,4 +1,4 @@
--- R1 and R2: the bytes that read an output latch out are the sheet's, in its order, and the last of them ends the latch.
+-- R1 and of R2 its end: the bytes that read an output latch out are the sheet's, in its order, and the last of them ends the latch.
 -- Where a word is half read in one-byte access, which no sequence of calls leads to, the sheet is silent and document 01 decides.
 -- Assumes nothing.
 use mathlib.Core.Path.{_≡_}
@@ -10,11 +10,11 @@ use Rattle.channel.specs.declared.ReadState.the-variants.{NoRead}
 use Rattle.latch.specs.Reading.{readByte}
 use Rattle.sheet.specs.Reading.{readOut}
 use Rattle.sheet.specs.Loading.{bytesOf}
-use Rattle.agreement.specs.Words.{accessWord}
+use Rattle.agreement.specs.Words.{sheetAccess}
 use Rattle.agreement.specs.Reads.{bytesRead, afterReads}
 
 pub read-agrees : (a : RwMode) (c : Channel) → c .control .«rw_mode» ≡ a → c .latch .«read_state» ≡ NoRead
-    → bytesRead (bytesOf (accessWord a)) c ≡ readOut (accessWord a) (c .latch .«output_latch»)
+    → bytesRead (bytesOf (sheetAccess a)) c ≡ readOut (sheetAccess a) (c .latch .«output_latch»)
 unfolding readByte
 read-agrees Lsb c e h = simp (e, h)
 read-agrees Msb c e h = simp (e, h)
@@ -22,8 +22,8 @@ read-agrees LsbMsb c e h = simp (e, h)
 
 -- R2: "reading it out ... ends the latch", and leaves no word half read
 pub reading-ends : (a : RwMode) (c : Channel) → c .control .«rw_mode» ≡ a → c .latch .«read_state» ≡ NoRead
-    → (afterReads (bytesOf (accessWord a)) c .latch .«count_is_latched» ≡ false)
-    × (afterReads (bytesOf (accessWord a)) c .latch .«read_state» ≡ NoRead)
+    → (afterReads (bytesOf (sheetAccess a)) c .latch .«count_is_latched» ≡ false)
+    × (afterReads (bytesOf (sheetAccess a)) c .latch .«read_state» ≡ NoRead)
 unfolding readByte
 reading-ends Lsb c e h = (simp (e, h), simp (e, h))
 reading-ends Msb c e h = (simp (e, h), simp (e, h))

@@ -3,15 +3,15 @@ use Rattle.channel.specs.declared.RwMode.{RwMode}
 use Rattle.channel.specs.declared.RwMode.the-variants.{Lsb, Msb, LsbMsb}
 use Rattle.channel.specs.Modes.{modeNumber}
 use Rattle.control.specs.declared.Command.{Command}
-use Rattle.control.specs.declared.Command.the-variants.{Nothing, Latch, SetMode}
-use Rattle.sheet.specs.ControlWord.{Access, lowByte, highByte, lowThenHigh, Word, noCounter, latchCounter, program}
+use Rattle.control.specs.declared.Command.the-variants.{Nothing, LatchCount, SetMode}
+use Rattle.sheet.specs.ControlByte.{Access, lowByte, highByte, lowThenHigh, Request, noCounter, latchCounter, program}
 
-abbrev pub accessWord : RwMode → Access
-accessWord Lsb = lowByte
-accessWord Msb = highByte
-accessWord LsbMsb = lowThenHigh
+abbrev pub sheetAccess : RwMode → Access
+sheetAccess Lsb = lowByte
+sheetAccess Msb = highByte
+sheetAccess LsbMsb = lowThenHigh
 
-abbrev pub commandWord : Command → Word
-commandWord Nothing = noCounter
-commandWord (Latch n) = latchCounter n
-commandWord (SetMode n w) = program n (accessWord (w .«rw_mode»)) (modeNumber (w .mode)) (w .«bcd_mode»)
+abbrev pub sheetRequest : Command → Request
+sheetRequest Nothing = noCounter
+sheetRequest (LatchCount n) = latchCounter n
+sheetRequest (SetMode n w) = program n (sheetAccess (w .«rw_mode»)) (modeNumber (w .mode)) (w .«bcd_mode»)

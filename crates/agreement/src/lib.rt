@@ -1,1 +1,2 @@
-// Where a data sheet and document 01 both speak, they agree. There is no code here: proofs/ has a file of theorems for each subject.
+// Theorems that tie what the data sheets fix to what document 01 says. Where the two part, docs/DIFFERENCES.md has a row. There is no code here:
+// proofs/ has a file for each subject.

@@ -1,7 +1,8 @@
 // One channel of the timer: its record, and the rules that several parts of it share.
 //
-// The groups are those of the chip's block diagram: control word register, count register, counting element,
-// output latch, and the two pins. No record holds its channel's number; its place on the board is its number.
+// The groups follow the chip's block diagram: control word register, count register, counting element, output latch, the two
+// pins. `Reloading` has what a mode leaves behind for its loads, and `dirty` stands alone. No record holds its channel's number; its place
+// on the board is its number.
 pub mod fresh;
 pub mod queries;
 pub mod shared;

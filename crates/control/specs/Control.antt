@@ -10,7 +10,7 @@ use Rattle.channel.specs.declared.ChannelMode.the-variants.{InterruptOnTerminal
 use Rattle.channel.specs.declared.RwMode.{RwMode}
 use Rattle.channel.specs.declared.RwMode.the-variants.{Lsb, Msb, LsbMsb}
 use Rattle.control.specs.declared.Command.{Command}
-use Rattle.control.specs.declared.Command.the-variants.{Nothing, Latch, SetMode}
+use Rattle.control.specs.declared.Command.the-variants.{Nothing, LatchCount, SetMode}
 
 -- "Bit 0 BCD, bits 1-3 mode, bits 4-5 access, bits 6-7 channel."
 abbrev pub bcdBit : ℕ → Bool
@@ -29,9 +29,10 @@ channelBits byte = byte / 64
 abbrev pub firstModes : ℕ → ChannelMode
 firstModes n =
     getD
-    (InterruptOnTerminalCount ∷ HardwareRetriggerableOneShot ∷ RateGenerator ∷ SquareWaveGenerator ∷ SoftwareTriggeredStrobe ∷ [])
+    (InterruptOnTerminalCount ∷ HardwareRetriggerableOneShot ∷ RateGenerator ∷ SquareWaveGenerator ∷ SoftwareTriggeredStrobe
+    ∷ HardwareTriggeredStrobe ∷ [])
     n
-    HardwareTriggeredStrobe
+    InterruptOnTerminalCount
 
 -- "Modes 6 and 7 mean 2 and 3"
 abbrev pub modeOf : ℕ → ChannelMode
@@ -49,5 +50,5 @@ controlWord byte =
 unfoldable pub commandOf : ℕ → Command
 commandOf byte =
     cond (eqb (channelBits byte) 3) Nothing
-    (cond (eqb (accessBits byte) 0) (Latch (channelBits byte))
+    (cond (eqb (accessBits byte) 0) (LatchCount (channelBits byte))
     (SetMode (channelBits byte) (controlWord byte)))

@@ -10,7 +10,7 @@ pub enum Command {
     // Channel 3, on either model.
     Nothing,
     // Latch the count of a channel.
-    Latch(u8),
+    LatchCount(u8),
     // Set a channel's mode, access and radix.
     SetMode(u8, ControlWord),
 }
@@ -61,7 +61,7 @@ pub fn command_of(byte: u8) -> Command
     }
     let access = byte / 16 % 4;
     if access == 0 {
-        return Command::Latch(channel);
+        return Command::LatchCount(channel);
     }
     let rw_mode = access_of(access);
     let mode = mode_of(byte / 2 % 8);

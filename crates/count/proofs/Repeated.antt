@@ -1,5 +1,5 @@
--- What n counts from v come to. In binary, document 01's "(v - n) mod 65,536"; in BCD from good digits, the packed digits of its
--- "(v - n) mod 10,000", where v is what the digits stand for. First for the step alone, then for a channel that counts n times. Assumes nothing.
+-- What n counts from v come to. In binary (v - n) mod 65,536; in BCD from good digits the packed digits of (v - n) mod 10,000, where
+-- v is what the digits stand for. First for the step alone, then for a channel that counts n times. Assumes nothing.
 use Prim.Native.Nat.{ℕ, zero, suc, _<_}
 use mathlib.Core.Bool.{true, false}
 use mathlib.Core.Path.{_≡_, refl, sym, ap, _∙_}
@@ -30,7 +30,7 @@ decimal-times (suc n) v h g =
     (ap packed (again 10000 (weight v) n 1 (omega arith)))
 
 -- a count leaves the control byte's part alone, so every count is in one radix
-control-kept : (n : ℕ) (c : Channel) → times n count c .control ≡ c .control
+pub control-kept : (n : ℕ) (c : Channel) → times n count c .control ≡ c .control
 unfolding count putElement
 control-kept zero c = refl
 control-kept (suc n) c = control-kept n c

@@ -21,6 +21,6 @@ withTicked c =
       ticked = true;
     })
 
--- "A count takes one from the counting element"; "the output latch follows unless latched; `ticked` becomes true"
+-- "A count takes one from the counting element"; "The output latch follows unless latched; `ticked` becomes true."
 unfoldable pub count : Channel → Channel
 count c = withTicked (putElement c (nextElement c))

@@ -22,13 +22,14 @@ stopsOnFall = byMode false false true true true false
 abbrev pub highOnFall : ChannelMode → Bool
 highOnFall = byMode false false true true false false
 
+abbrev pub stopping : Channel → Channel
+stopping c = cond (stopsOnFall (c .control .mode)) (changeChannelState c WaitingForGate) c
+
+abbrev pub raising : ChannelMode → Channel → Channel
+raising m c = cond (highOnFall m) (changeOutputState c true) c
+
 abbrev pub falling : Channel → Channel
-falling c =
-    cond (stopsOnFall (c .control .mode))
-    (cond (highOnFall (c .control .mode))
-    (changeOutputState (changeChannelState c WaitingForGate) true)
-    (changeChannelState c WaitingForGate))
-    c
+falling c = raising (c .control .mode) (stopping c)
 
 -- the edge from a level to a level, if there is one
 abbrev pub edge : Bool → Bool → Channel → Channel
@@ -46,12 +47,12 @@ waitsForReload WaitingForLoadCycle = false
 waitsForReload WaitingForLoadTrigger = false
 waitsForReload (Counting f) = false
 
-abbrev pub acted : Channel → Bool → Channel
-acted c level = cond (waitsForReload (c .counter .«channel_state»)) c (edge (c .pins .gate) level c)
+abbrev pub afterEdge : Channel → Bool → Channel
+afterEdge c level = cond (waitsForReload (c .counter .«channel_state»)) c (edge (c .pins .gate) level c)
 
 abbrev pub withGate : Channel → Bool → Channel
 withGate c level = withPins c (record { gate = level; output = c .pins .output })
 
 -- "The gate level is always stored."
 unfoldable pub setGate : Channel → Bool → Channel
-setGate c level = withGate (acted c level) level
+setGate c level = withGate (afterEdge c level) level

@@ -3,7 +3,7 @@ use channel::Channel;
 use channel::ChannelMode;
 use channel::ChannelState;
 ghost use mathlib.Core.Path.{_≡_};
-ghost use Rattle.gate.specs.Gate.{loadsOnRise, stopsOnFall, highOnFall, waitsForReload, rising, falling, edge, acted, setGate};
+ghost use Rattle.gate.specs.Gate.{loadsOnRise, stopsOnFall, highOnFall, waitsForReload, rising, stopping, falling, edge, afterEdge, setGate};
 
 fn loads_on_rise(mode: ChannelMode) -> bool
     ensures { λ r. ⌜ r ≡ loadsOnRise mode ⌝ }
@@ -68,19 +68,27 @@ fn rise(c: Channel) -> Channel
     c
 }
 
+fn stop(c: Channel) -> Channel
+    ensures { λ r. ⌜ r ≡ stopping c ⌝ }
+{
+    let w = c.control;
+    let mode = w.mode;
+    if stops_on_fall(mode) {
+        return c.change_channel_state(ChannelState::WaitingForGate);
+    }
+    c
+}
+
 fn fall(c: Channel) -> Channel
     ensures { λ r. ⌜ r ≡ falling c ⌝ }
 {
     let w = c.control;
     let mode = w.mode;
-    if stops_on_fall(mode) {
-        let stopped = c.change_channel_state(ChannelState::WaitingForGate);
-        if high_on_fall(mode) {
-            return stopped.change_output_state(true);
-        }
-        return stopped;
+    let stopped = stop(c);
+    if high_on_fall(mode) {
+        return stopped.change_output_state(true);
     }
-    c
+    stopped
 }
 
 // What the edge between the gate's level and the new one does, the level itself aside.
@@ -101,8 +109,8 @@ fn edge_at(c: Channel, level: bool) -> Channel
     c
 }
 
-fn act(c: Channel, level: bool) -> Channel
-    ensures { λ r. ⌜ r ≡ acted c level ⌝ }
+fn after_edge(c: Channel, level: bool) -> Channel
+    ensures { λ r. ⌜ r ≡ afterEdge c level ⌝ }
 {
     let k = c.counter;
     let state = k.channel_state;
@@ -115,7 +123,7 @@ fn act(c: Channel, level: bool) -> Channel
 pub fn set_gate(c: Channel, level: bool) -> Channel
     ensures { λ r. ⌜ r ≡ setGate c level ⌝ }
 {
-    let mut next = act(c, level);
+    let mut next = after_edge(c, level);
     next.pins.gate = level;
     next
 }

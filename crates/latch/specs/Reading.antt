@@ -24,16 +24,16 @@ byteAt Low v = v % 256
 byteAt High v = v / 256
 
 -- a low, a high or a word's second byte; not a word's first
-abbrev pub wholeAt : ReadState → RwMode → Bool
-wholeAt NoRead Lsb = true
-wholeAt NoRead Msb = true
-wholeAt NoRead LsbMsb = false
-wholeAt ReadLsb a = true
+abbrev pub endsLatch : ReadState → RwMode → Bool
+endsLatch NoRead Lsb = true
+endsLatch NoRead Msb = true
+endsLatch NoRead LsbMsb = false
+endsLatch ReadLsb a = true
 
 -- "A low, a high or a word's second byte ends the latch."
 abbrev pub afterRead : Latch → RwMode → Latch
 afterRead l a =
-    cond (wholeAt (l .«read_state») a)
+    cond (endsLatch (l .«read_state») a)
     (record { «output_latch» = l .«output_latch»; «count_is_latched» = false; «read_state» = NoRead })
     (record { «output_latch» = l .«output_latch»; «count_is_latched» = l .«count_is_latched»; «read_state» = ReadLsb })
 

@@ -4,7 +4,7 @@ use channel::Latch;
 use channel::ReadState;
 use channel::RwMode;
 ghost use mathlib.Core.Path.{_≡_};
-ghost use Rattle.latch.specs.Reading.{halfAt, byteAt, wholeAt, afterRead, nextHalf, readByte};
+ghost use Rattle.latch.specs.Reading.{halfAt, byteAt, endsLatch, afterRead, nextHalf, readByte};
 
 // Which half of the output latch a read gives.
 pub enum Half {
@@ -30,9 +30,9 @@ fn half_at(read_state: ReadState, rw_mode: RwMode) -> Half
     }
 }
 
-// Whether a read is the whole of what is due, or the second byte of it: not the first of a word.
-fn whole_at(read_state: ReadState, rw_mode: RwMode) -> bool
-    ensures { λ r. ⌜ r ≡ wholeAt «read_state» «rw_mode» ⌝ }
+// Whether a read ends the latch: all do but the first of a word.
+fn ends_latch(read_state: ReadState, rw_mode: RwMode) -> bool
+    ensures { λ r. ⌜ r ≡ endsLatch «read_state» «rw_mode» ⌝ }
 {
     match read_state {
         ReadState::NoRead => match rw_mode {
@@ -68,7 +68,7 @@ fn after_read(l: Latch, rw_mode: RwMode) -> Latch
     ensures { λ r. ⌜ r ≡ afterRead l «rw_mode» ⌝ }
 {
     let read_state = l.read_state;
-    if whole_at(read_state, rw_mode) {
+    if ends_latch(read_state, rw_mode) {
         return Latch {
             output_latch: l.output_latch,
             count_is_latched: false,

@@ -12,9 +12,9 @@ use Rattle.channel.specs.declared.RwMode.{RwMode}
 use Rattle.channel.specs.declared.RwMode.the-variants.{Lsb, Msb, LsbMsb}
 use Rattle.channel.specs.Shared.{changeOutputState}
 use Rattle.channel.specs.Kept.{Kept}
-use Rattle.channel.proofs.Keeps.{kept-then, kept-pick, kept-state, kept-output}
+use Rattle.channel.proofs.Keeps.{kept-same, kept-then, kept-pick, kept-state, kept-output}
 use Rattle.load.specs.Finalize.{waitingState, firstState, loadsAgain, completeLoad, enterAfter, finalizeLoad}
-use Rattle.load.specs.Write.{putRegister, stopsOnLowByte, stopped, writeAt, writeByte}
+use Rattle.load.specs.Write.{putRegister, stopsOnLowByte, stopped, begun, writeAt, writeByte}
 
 register-keeps : (c : Channel) (value : ℕ) (s : LoadState) → Kept c (putRegister c value s)
 unfolding putRegister
@@ -24,31 +24,28 @@ complete-keeps : (c : Channel) → Kept c (completeLoad c)
 unfolding completeLoad
 complete-keeps c = record { control-kept = refl; latch-kept = refl; element-kept = refl; ticked-kept = refl }
 
-after-keeps : (t : LoadType) (c : Channel) (defer : Bool) → Kept c (enterAfter t c defer)
-after-keeps InitialLoad c defer =
-    kept-then (complete-keeps c) (kept-state (completeLoad c) (firstState (c .reloading .«reload_on_trigger») defer))
-after-keeps SubsequentLoad c defer =
-    kept-pick (loadsAgain (c .control .mode))
-    (kept-then (complete-keeps c) (kept-state (completeLoad c) (waitingState defer)))
-    (complete-keeps c)
+after-keeps : (t : LoadType) (defer : Bool) (c : Channel) → Kept c (enterAfter t defer c)
+after-keeps InitialLoad defer c = kept-state c (firstState (c .reloading .«reload_on_trigger») defer)
+after-keeps SubsequentLoad defer c = kept-pick (loadsAgain (c .control .mode)) (kept-state c (waitingState defer)) (kept-same c)
 
 pub finalize-keeps : (c : Channel) (defer : Bool) → Kept c (finalizeLoad c defer)
 unfolding finalizeLoad
-finalize-keeps c defer = after-keeps (c .load .«load_type») c defer
+finalize-keeps c defer = kept-then (complete-keeps c) (after-keeps (c .load .«load_type») defer (completeLoad c))
 
 stop-keeps : (c : Channel) → Kept c (stopped c)
 stop-keeps c = kept-then (kept-output c false) (kept-state (changeOutputState c false) WaitingForReload)
+
+begun-keeps : (c : Channel) → Kept c (begun c)
+begun-keeps c = kept-pick (stopsOnLowByte (c .control .mode)) (stop-keeps c) (kept-same c)
 
 whole-keeps : (c : Channel) (value : ℕ) (s : LoadState) (defer : Bool) → Kept c (finalizeLoad (putRegister c value s) defer)
 whole-keeps c value s defer = kept-then (register-keeps c value s) (finalize-keeps (putRegister c value s) defer)
 
 write-at-keeps : (a : RwMode) (s : LoadState) (c : Channel) (byte : ℕ) (defer : Bool) → Kept c (writeAt a s c byte defer)
-write-at-keeps Lsb s c byte defer = whole-keeps c byte s defer
-write-at-keeps Msb s c byte defer = whole-keeps c (byte * 256) s defer
+write-at-keeps Lsb s c byte defer = whole-keeps c byte (c .load .«load_state») defer
+write-at-keeps Msb s c byte defer = whole-keeps c (byte * 256) (c .load .«load_state») defer
 write-at-keeps LsbMsb WaitingForLsb c byte defer =
-    kept-pick (stopsOnLowByte (c .control .mode))
-    (kept-then (register-keeps c byte WaitingForMsb) (stop-keeps (putRegister c byte WaitingForMsb)))
-    (register-keeps c byte WaitingForMsb)
+    kept-then (register-keeps c byte WaitingForMsb) (begun-keeps (putRegister c byte WaitingForMsb))
 write-at-keeps LsbMsb WaitingForMsb c byte defer =
     whole-keeps c (c .load .«count_register» % 256 + byte * 256) WaitingForLsb defer
 

@@ -30,7 +30,7 @@ abbrev pub armedBy : LoadType → Bool → Bool
 armedBy InitialLoad armed = true
 armedBy SubsequentLoad armed = armed
 
--- "A complete load copies the count register to the reload value"; the load after it is a later one
+-- what a complete load leaves in the load group; the load after it is a later one
 abbrev pub completed : Load → Load
 completed l =
     record {
@@ -45,11 +45,10 @@ completed l =
 unfoldable pub completeLoad : Channel → Channel
 completeLoad c = withDirty (withLoad c (completed (c .load))) true
 
--- the state that a first and that a later load enter
-abbrev pub enterAfter : LoadType → Channel → Bool → Channel
-enterAfter InitialLoad c defer = changeChannelState (completeLoad c) (firstState (c .reloading .«reload_on_trigger») defer)
-enterAfter SubsequentLoad c defer =
-    cond (loadsAgain (c .control .mode)) (changeChannelState (completeLoad c) (waitingState defer)) (completeLoad c)
+-- the channel in the state that a first or a later load enters, if it enters one
+abbrev pub enterAfter : LoadType → Bool → Channel → Channel
+enterAfter InitialLoad defer c = changeChannelState c (firstState (c .reloading .«reload_on_trigger») defer)
+enterAfter SubsequentLoad defer c = cond (loadsAgain (c .control .mode)) (changeChannelState c (waitingState defer)) c
 
 unfoldable pub finalizeLoad : Channel → Bool → Channel
-finalizeLoad c defer = enterAfter (c .load .«load_type») c defer
+finalizeLoad c defer = enterAfter (c .load .«load_type») defer (completeLoad c)

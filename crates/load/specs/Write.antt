@@ -32,15 +32,17 @@ stopsOnLowByte = byMode true false false false false false
 abbrev pub stopped : Channel → Channel
 stopped c = changeChannelState (changeOutputState c false) WaitingForReload
 
+abbrev pub begun : Channel → Channel
+begun c = cond (stopsOnLowByte (c .control .mode)) (stopped c) c
+
 -- "the low byte alone sets the other half to 0"
 abbrev pub writeLow : Channel → ℕ → Channel
-writeLow c byte =
-    cond (stopsOnLowByte (c .control .mode)) (stopped (putRegister c byte WaitingForMsb)) (putRegister c byte WaitingForMsb)
+writeLow c byte = begun (putRegister c byte WaitingForMsb)
 
 -- "Low or high access: one byte completes the load, the other half 0. Both: low, then high"
 abbrev pub writeAt : RwMode → LoadState → Channel → ℕ → Bool → Channel
-writeAt Lsb s c byte defer = finalizeLoad (putRegister c byte s) defer
-writeAt Msb s c byte defer = finalizeLoad (putRegister c (byte * 256) s) defer
+writeAt Lsb s c byte defer = finalizeLoad (putRegister c byte (c .load .«load_state»)) defer
+writeAt Msb s c byte defer = finalizeLoad (putRegister c (byte * 256) (c .load .«load_state»)) defer
 writeAt LsbMsb WaitingForLsb c byte defer = writeLow c byte
 writeAt LsbMsb WaitingForMsb c byte defer =
     finalizeLoad (putRegister c (c .load .«count_register» % 256 + byte * 256) WaitingForLsb) defer

@@ -1,4 +1,4 @@
-// A complete load: what is written becomes the reload value, and the channel waits for its load cycle.
+// A complete load: what was written becomes the reload value, and the channel enters the state that the load asks for, if any.
 use channel::Channel;
 use channel::ChannelMode;
 use channel::ChannelState;
@@ -28,7 +28,7 @@ fn first_state(reload_on_trigger: bool, defer_reload: bool) -> ChannelState
     }
 }
 
-// The modes in which a load that is not the first is taken up at once.
+// The modes in which a load that is not the first enters the waiting state.
 fn loads_again(mode: ChannelMode) -> bool
     ensures { λ r. ⌜ r ≡ loadsAgain mode ⌝ }
 {
@@ -81,12 +81,12 @@ fn complete_load(c: Channel) -> Channel
 pub fn finalize_load(c: Channel, defer_reload: bool) -> Channel
     ensures { λ r. ⌜ r ≡ finalizeLoad c «defer_reload» ⌝ }
 {
-    let w = c.control;
-    let mode = w.mode;
-    let rule = c.reloading;
     let l = c.load;
     let load_type = l.load_type;
     let loaded = complete_load(c);
+    let w = loaded.control;
+    let mode = w.mode;
+    let rule = loaded.reloading;
     match load_type {
         LoadType::InitialLoad => {
             let state = first_state(rule.reload_on_trigger, defer_reload);

@@ -58,9 +58,9 @@ fn stop(c: Channel) -> Channel
 fn write_low(c: Channel, byte: u8) -> Channel
     ensures { λ r. ⌜ r ≡ writeLow c byte ⌝ }
 {
-    let w = c.control;
-    let mode = w.mode;
     let next = put_register(c, wide(byte), LoadState::WaitingForMsb);
+    let w = next.control;
+    let mode = w.mode;
     if stops_on_low_byte(mode) {
         return stop(next);
     }

@@ -1,4 +1,4 @@
--- Four digits of four bits in one 16-bit number, and the decimal number that they stand for (sheets.md N2: "four decades").
+-- Four digits of four bits in one 16-bit number, and the decimal number that they stand for (docs/SHEETS.md, N2: "four decades").
 use Prim.Native.Nat.{ℕ, _+_, _*_, _/_, _%_, _<_}
 
 abbrev pub ones : ℕ → ℕ

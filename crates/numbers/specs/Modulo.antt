@@ -1,4 +1,4 @@
--- Subtraction that goes round. Document 01: "(v - n) mod 65,536", "(v - n) mod 10,000".
+-- Subtraction that goes round: document 01's "subtraction mod 65,536", and the same mod 10,000 for decimal counts.
 use Prim.Native.Nat.{ℕ, _+_, _-_, _%_}
 
 -- (v - n) mod m: the one number below m that n more bring back to v, mod m (the laws `below`, `back` and `only` of proofs/Modulo.antt)

@@ -1,4 +1,4 @@
-pub mod ControlWord
+pub mod ControlByte
 pub mod Counting
 pub mod Reading
 pub mod Loading

@@ -5,22 +5,10 @@ use Rattle.gate.proofs.fall.Statement.{statement}
 use Rattle.gate.proofs.fall.Tie as tie
 
 returns : tie.Need-returns
-returns c = simp (c .change-output-state .ensures, sym (c .before .before .high-on-fall .ensures) ∙ c .before .if2 .taken, c .before .before .before .change-channel-state .ensures, sym (c .before .before .before .before .before .stops-on-fall .ensures) ∙ c .before .before .before .before .if1 .taken)
+returns c = simp (c .change-output-state .ensures, sym (c .before .before .high-on-fall .ensures) ∙ c .before .if1 .taken, c .before .before .before .stop .ensures)
 
 returns-2 : tie.Need-returns-2
-returns-2 c = simp (sym (c .before .high-on-fall .ensures) ∙ c .if2 .left, c .before .before .change-channel-state .ensures, sym (c .before .before .before .before .stops-on-fall .ensures) ∙ c .before .before .before .if1 .taken)
-
-returns-3 : tie.Need-returns-3
-returns-3 c = simp (sym (c .before .stops-on-fall .ensures) ∙ c .if1 .left)
+returns-2 c = simp (sym (c .before .high-on-fall .ensures) ∙ c .if1 .left, c .before .before .stop .ensures)
 
 pub fall-spec : {M : Type 1} → statement M
-fall-spec =
-    tie.close
-    (tie.spec
-    (λ c κs. search needs)
-    (λ c κs. search needs)
-    (λ c κs. search needs)
-    (λ c κs. search needs)
-    returns
-    returns-2
-    returns-3)
+fall-spec = tie.close (tie.spec (λ c κs. search needs) (λ c κs. search needs) (λ c κs. search needs) returns returns-2)
