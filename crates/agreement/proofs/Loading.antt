@@ -16,7 +16,6 @@ use Rattle.channel.specs.declared.LoadType.the-variants.{InitialLoad, Subsequen
 use Rattle.channel.specs.declared.RwMode.the-variants.{LsbMsb}
 use Rattle.channel.specs.Modes.{modeNumber}
 use Rattle.channel.specs.Shared.{changeChannelState, changeOutputState}
-use Rattle.channel.specs.Kept.{Kept}
 use Rattle.channel.proofs.Modes.{every-mode}
 use Rattle.load.specs.Finalize.{completeLoad, enterAfter, finalizeLoad, loadsAgain, waitingState}
 use Rattle.load.specs.Write.{putRegister, stopsOnLowByte, stopped, writeByte}

@@ -1,6 +1,6 @@
 -- The shared rules that keep the count: entry into a state and a change of the output do, and so does whatever a test picks of things that do.
 -- Assumes nothing.
-use mathlib.Core.Path.{_≡_, refl, _∙_}
+use mathlib.Core.Path.{refl, _∙_}
 use mathlib.Core.Bool.{Bool, true, false, cond}
 use Rattle.channel.specs.declared.Channel.{Channel}
 use Rattle.channel.specs.declared.ChannelState.{ChannelState}
