@@ -8,6 +8,7 @@ use Rattle.channel.specs.Record.{withDirty}
 use Rattle.channel.specs.Modes.{byMode}
 use Rattle.channel.specs.Shared.{isCounting}
 
+-- the level at the output pin
 abbrev pub getOutputState : Channel → Bool
 getOutputState c = c .pins .output
 

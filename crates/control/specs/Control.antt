@@ -42,6 +42,7 @@ modeOf n = cond (ltb 5 n) (firstModes (n - 4)) (firstModes n)
 abbrev pub accessOf : ℕ → RwMode
 accessOf n = cond (eqb n 1) Lsb (cond (eqb n 2) Msb LsbMsb)
 
+-- what a mode set carries
 abbrev pub controlWord : ℕ → ControlWord
 controlWord byte =
     record { mode = modeOf (modeBits byte); «rw_mode» = accessOf (accessBits byte); «bcd_mode» = bcdBit byte }

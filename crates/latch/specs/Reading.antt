@@ -19,6 +19,7 @@ halfAt NoRead Msb = High
 halfAt NoRead LsbMsb = Low
 halfAt ReadLsb a = High
 
+-- a half of the output latch, as a byte
 abbrev pub byteAt : Half → ℕ → ℕ
 byteAt Low v = v % 256
 byteAt High v = v / 256

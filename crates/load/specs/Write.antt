@@ -32,6 +32,7 @@ stopsOnLowByte = byMode true false false false false false
 abbrev pub stopped : Channel → Channel
 stopped c = changeChannelState (changeOutputState c false) WaitingForReload
 
+-- a channel whose two-byte load has begun
 abbrev pub begun : Channel → Channel
 begun c = cond (stopsOnLowByte (c .control .mode)) (stopped c) c
 
