@@ -5,11 +5,12 @@ use mathlib.Core.Path.{_≡_, refl}
 use mathlib.Core.Bool.{Bool, true, false, cond}
 use Rattle.channel.specs.declared.Channel.{Channel}
 use Rattle.channel.specs.declared.ChannelMode.{ChannelMode}
-use Rattle.channel.specs.declared.ChannelState.{ChannelState}
 use Rattle.channel.specs.declared.ChannelState.the-variants.{WaitingForGate, WaitingForLoadCycle}
 use Rattle.channel.specs.Modes.{modeNumber}
 use Rattle.channel.specs.Shared.{changeChannelState, changeOutputState}
+use Rattle.channel.specs.Queries.{getOutputState}
 use Rattle.channel.proofs.Modes.{every-mode}
+use Rattle.channel.proofs.Pick.{of-pick, pick-same}
 use Rattle.gate.specs.Gate.{loadsOnRise, stopsOnFall, highOnFall, waitsForReload, setGate}
 use Rattle.sheet.specs.Gate.{fallEffect, riseEffect}
 
@@ -31,49 +32,27 @@ stops-agree =
     (λ other. refl)
     (λ other. refl)
 
--- a channel that enters a state, or raises its output, where a test says so
-state-picked : (b : Bool) (s : ChannelState) (c : Channel)
-    → cond b (changeChannelState c s) c .counter .«channel_state» ≡ cond b s (c .counter .«channel_state»)
-unfolding changeChannelState
-state-picked true s c = refl
-state-picked false s c = refl
-
-pins-kept : (b : Bool) (s : ChannelState) (c : Channel) → cond b (changeChannelState c s) c .pins ≡ c .pins
-unfolding changeChannelState
-pins-kept true s c = refl
-pins-kept false s c = refl
-
-output-picked : (b : Bool) (c : Channel) → cond b (changeOutputState c true) c .pins .output ≡ cond b true (c .pins .output)
-unfolding changeOutputState
-output-picked true c = refl
-output-picked false c = refl
-
-counter-kept : (b : Bool) (c : Channel) → cond b (changeOutputState c true) c .counter ≡ c .counter
-unfolding changeOutputState
-counter-kept true c = refl
-counter-kept false c = refl
-
 module _ (c : Channel) (acts : waitsForReload (c .counter .«channel_state») ≡ false) where
   pub rise-state : c .pins .gate ≡ false
       → setGate c true .counter .«channel_state»
       ≡ cond (riseEffect (modeNumber (c .control .mode)) .loads) WaitingForLoadCycle (c .counter .«channel_state»)
-  unfolding setGate
-  rise-state low = simp (acts, low, state-picked, loads-agree)
+  unfolding setGate changeChannelState
+  rise-state low = simp (acts, low, of-pick (λ (d : Channel). d .counter .«channel_state»), loads-agree)
 
   pub rise-output : c .pins .gate ≡ false → setGate c true .pins .output ≡ c .pins .output
-  unfolding setGate
-  rise-output low = simp (acts, low, pins-kept)
+  unfolding setGate changeChannelState
+  rise-output low = simp (acts, low, of-pick getOutputState, pick-same)
 
   pub fall-state : c .pins .gate ≡ true → (modeNumber (c .control .mode) ≡ 0 → ⊥)
       → setGate c false .counter .«channel_state»
       ≡ cond (fallEffect (modeNumber (c .control .mode)) .stops) WaitingForGate (c .counter .«channel_state»)
-  unfolding setGate
-  fall-state high other = simp (acts, high, counter-kept, state-picked, stops-agree (c .control .mode) other)
+  unfolding setGate changeChannelState changeOutputState
+  fall-state high other = simp (acts, high, of-pick (λ (d : Channel). d .counter .«channel_state»), pick-same, stops-agree (c .control .mode) other)
 
   pub fall-output : c .pins .gate ≡ true
       → setGate c false .pins .output ≡ cond (fallEffect (modeNumber (c .control .mode)) .raises) true (c .pins .output)
-  unfolding setGate
-  fall-output high = simp (acts, high, output-picked, pins-kept, raises-agree)
+  unfolding setGate changeChannelState changeOutputState
+  fall-output high = simp (acts, high, of-pick getOutputState, of-pick (λ (d : Channel). d .control), pick-same, raises-agree)
 
 -- in every mode the level is kept for the ticks to see, in mode 0 nothing else
 pub level-kept : (c : Channel) (level : Bool) → setGate c level .pins .gate ≡ level

@@ -2,11 +2,10 @@
 -- low, and does nothing in the other modes. Assumes nothing.
 use Prim.Native.Nat.{ℕ, _+_, _*_, _%_, _<_}
 use mathlib.Core.Path.{_≡_, refl, ap, _∙_}
-use mathlib.Core.Bool.{Bool, true, false, cond}
+use mathlib.Core.Bool.{Bool, false, cond}
 use native.Mathlib.Omega.{arith}
 use Rattle.channel.specs.declared.Channel.{Channel}
 use Rattle.channel.specs.declared.ChannelMode.{ChannelMode}
-use Rattle.channel.specs.declared.ChannelState.{ChannelState}
 use Rattle.channel.specs.declared.ChannelState.the-variants.{WaitingForReload}
 use Rattle.channel.specs.declared.ControlWord.{ControlWord}
 use Rattle.channel.specs.declared.Load.{Load}
@@ -16,22 +15,19 @@ use Rattle.channel.specs.declared.LoadType.the-variants.{InitialLoad, Subsequen
 use Rattle.channel.specs.declared.RwMode.the-variants.{LsbMsb}
 use Rattle.channel.specs.Modes.{modeNumber}
 use Rattle.channel.specs.Shared.{changeChannelState, changeOutputState}
+use Rattle.channel.specs.Queries.{getOutputState}
 use Rattle.channel.proofs.Modes.{every-mode}
-use Rattle.load.specs.Finalize.{completeLoad, enterAfter, finalizeLoad, loadsAgain, waitingState}
-use Rattle.load.specs.Write.{putRegister, stopsOnLowByte, stopped, writeByte}
+use Rattle.channel.proofs.Pick.{of-pick, pick-same}
+use Rattle.load.specs.Finalize.{completeLoad, enterAfter, finalizeLoad}
+use Rattle.load.specs.Write.{putRegister, stopsOnLowByte, writeByte}
 use Rattle.load.proofs.Keeps.{write-keeps}
 use Rattle.sheet.specs.Loading.{countOf, firstByteStops}
 
 -- the state that a complete load enters is nothing to its reload value, which is the count register
-entered-load : (b : Bool) (s : ChannelState) (c : Channel) → cond b (changeChannelState c s) c .load ≡ c .load
-unfolding changeChannelState
-entered-load true s c = refl
-entered-load false s c = refl
-
 after-load : (t : LoadType) (defer : Bool) (c : Channel) → enterAfter t defer c .load ≡ c .load
 unfolding changeChannelState
 after-load InitialLoad defer c = refl
-after-load SubsequentLoad defer c = entered-load (loadsAgain (c .control .mode)) (waitingState defer) c
+after-load SubsequentLoad defer c = simp (of-pick (λ (d : Channel). d .load), pick-same)
 
 reload-is-register : (c : Channel) (defer : Bool) → finalizeLoad c defer .load .«reload_value» ≡ c .load .«count_register»
 unfolding finalizeLoad completeLoad
@@ -45,29 +41,13 @@ second-load c both waits high defer =
     simp (both, waits)
     (reload-is-register (putRegister c (c .load .«count_register» % 256 + high * 256) WaitingForLsb) defer)
 
--- a channel that stops where a test says so
-stopped-load : (b : Bool) (c : Channel) → cond b (stopped c) c .load ≡ c .load
-unfolding changeChannelState changeOutputState
-stopped-load true c = refl
-stopped-load false c = refl
-
-stopped-state : (b : Bool) (c : Channel) → cond b (stopped c) c .counter .«channel_state» ≡ cond b WaitingForReload (c .counter .«channel_state»)
-unfolding changeChannelState changeOutputState
-stopped-state true c = refl
-stopped-state false c = refl
-
-stopped-output : (b : Bool) (c : Channel) → cond b (stopped c) c .pins .output ≡ cond b false (c .pins .output)
-unfolding changeChannelState changeOutputState
-stopped-output true c = refl
-stopped-output false c = refl
-
 stops-agree : (m : ChannelMode) → stopsOnLowByte m ≡ firstByteStops (modeNumber m)
 stops-agree = every-mode (λ (m : ChannelMode). stopsOnLowByte m ≡ firstByteStops (modeNumber m)) refl refl refl refl refl refl
 
 module _ (c : Channel) (both : c .control .«rw_mode» ≡ LsbMsb) (begins : c .load .«load_state» ≡ WaitingForLsb) where
   low-load : (low : ℕ) (defer : Bool) → writeByte c low defer .load ≡ putRegister c low WaitingForMsb .load
-  unfolding writeByte putRegister
-  low-load low defer = simp (both, begins, stopped-load)
+  unfolding writeByte putRegister changeChannelState changeOutputState
+  low-load low defer = simp (both, begins, of-pick (λ (d : Channel). d .load), pick-same)
 
   low-access : (low : ℕ) (defer : Bool) → writeByte c low defer .control .«rw_mode» ≡ LsbMsb
   low-access low defer = ap (λ (w : ControlWord). w .«rw_mode») (write-keeps c low defer .control-kept) ∙ both
@@ -89,11 +69,11 @@ module _ (c : Channel) (both : c .control .«rw_mode» ≡ LsbMsb) (begins : c .
   pub first-state : (low : ℕ) (defer : Bool)
       → writeByte c low defer .counter .«channel_state»
       ≡ cond (firstByteStops (modeNumber (c .control .mode))) WaitingForReload (c .counter .«channel_state»)
-  unfolding writeByte putRegister
-  first-state low defer = simp (both, begins, stopped-state, stops-agree)
+  unfolding writeByte putRegister changeChannelState changeOutputState
+  first-state low defer = simp (both, begins, of-pick (λ (d : Channel). d .counter .«channel_state»), stops-agree)
 
   -- M0-8254: it "sets the output low at once"
   pub first-output : (low : ℕ) (defer : Bool)
       → writeByte c low defer .pins .output ≡ cond (firstByteStops (modeNumber (c .control .mode))) false (c .pins .output)
-  unfolding writeByte putRegister
-  first-output low defer = simp (both, begins, stopped-output, stops-agree)
+  unfolding writeByte putRegister changeChannelState changeOutputState
+  first-output low defer = simp (both, begins, of-pick getOutputState, stops-agree)

@@ -2,7 +2,6 @@
 use mathlib.Core.Path.{refl}
 use mathlib.Core.Bool.{Bool, true, false}
 use Rattle.channel.specs.declared.Channel.{Channel}
-use Rattle.channel.specs.declared.ChannelMode.{ChannelMode}
 use Rattle.channel.specs.declared.ChannelState.the-variants.{WaitingForGate, WaitingForLoadCycle}
 use Rattle.channel.specs.Kept.{Kept}
 use Rattle.channel.proofs.Keeps.{kept-same, kept-then, kept-pick, kept-state, kept-output}
@@ -11,13 +10,13 @@ use Rattle.gate.specs.Gate.{loadsOnRise, stopsOnFall, highOnFall, waitsF
 stopping-keeps : (c : Channel) → Kept c (stopping c)
 stopping-keeps c = kept-pick (stopsOnFall (c .control .mode)) (kept-state c WaitingForGate) (kept-same c)
 
-raising-keeps : (m : ChannelMode) (c : Channel) → Kept c (raising m c)
-raising-keeps m c = kept-pick (highOnFall m) (kept-output c true) (kept-same c)
+raising-keeps : (c : Channel) → Kept c (raising c)
+raising-keeps c = kept-pick (highOnFall (c .control .mode)) (kept-output c true) (kept-same c)
 
 edge-keeps : (was level : Bool) (c : Channel) → Kept c (edge was level c)
 edge-keeps false false c = kept-same c
 edge-keeps false true c = kept-pick (loadsOnRise (c .control .mode)) (kept-state c WaitingForLoadCycle) (kept-same c)
-edge-keeps true false c = kept-then (stopping-keeps c) (raising-keeps (c .control .mode) (stopping c))
+edge-keeps true false c = kept-then (stopping-keeps c) (raising-keeps (stopping c))
 edge-keeps true true c = kept-same c
 
 level-keeps : (c : Channel) (level : Bool) → Kept c (withGate c level)

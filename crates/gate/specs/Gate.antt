@@ -25,11 +25,11 @@ highOnFall = byMode false false true true false false
 abbrev pub stopping : Channel → Channel
 stopping c = cond (stopsOnFall (c .control .mode)) (changeChannelState c WaitingForGate) c
 
-abbrev pub raising : ChannelMode → Channel → Channel
-raising m c = cond (highOnFall m) (changeOutputState c true) c
+abbrev pub raising : Channel → Channel
+raising c = cond (highOnFall (c .control .mode)) (changeOutputState c true) c
 
 abbrev pub falling : Channel → Channel
-falling c = raising (c .control .mode) (stopping c)
+falling c = raising (stopping c)
 
 -- the edge from a level to a level, if there is one
 abbrev pub edge : Bool → Bool → Channel → Channel

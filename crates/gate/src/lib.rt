@@ -3,7 +3,7 @@ use channel::Channel;
 use channel::ChannelMode;
 use channel::ChannelState;
 ghost use mathlib.Core.Path.{_≡_};
-ghost use Rattle.gate.specs.Gate.{loadsOnRise, stopsOnFall, highOnFall, waitsForReload, rising, stopping, falling, edge, afterEdge, setGate};
+ghost use Rattle.gate.specs.Gate.{loadsOnRise, stopsOnFall, highOnFall, waitsForReload, rising, stopping, raising, falling, edge, afterEdge, setGate};
 
 fn loads_on_rise(mode: ChannelMode) -> bool
     ensures { λ r. ⌜ r ≡ loadsOnRise mode ⌝ }
@@ -79,16 +79,22 @@ fn stop(c: Channel) -> Channel
     c
 }
 
-fn fall(c: Channel) -> Channel
-    ensures { λ r. ⌜ r ≡ falling c ⌝ }
+fn raise(c: Channel) -> Channel
+    ensures { λ r. ⌜ r ≡ raising c ⌝ }
 {
     let w = c.control;
     let mode = w.mode;
-    let stopped = stop(c);
     if high_on_fall(mode) {
-        return stopped.change_output_state(true);
+        return c.change_output_state(true);
     }
-    stopped
+    c
+}
+
+fn fall(c: Channel) -> Channel
+    ensures { λ r. ⌜ r ≡ falling c ⌝ }
+{
+    let stopped = stop(c);
+    raise(stopped)
 }
 
 // What the edge between the gate's level and the new one does, the level itself aside.

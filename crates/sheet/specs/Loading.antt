@@ -15,6 +15,7 @@ abbrev pub countOf : ℕ → ℕ → ℕ
 countOf low high = low + 256 * high
 
 -- M0: "Of a two-byte count the first byte stops counting"; M0-8254: it "sets the output low at once". Of mode 4 M4-8254 says "its first
--- byte has no effect", and of the others M1, M2, M3 and M5 say that a count written meanwhile waits
+-- byte has no effect", and of the others M1, M2, M3 and M5 say that a count written
+-- meanwhile waits for a trigger or a load
 abbrev pub firstByteStops : ℕ → Bool
 firstByteStops mode = eqb mode 0

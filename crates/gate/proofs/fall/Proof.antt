@@ -1,14 +1,10 @@
 -- `gate::fall` meets its contract. Assumes nothing.
-use mathlib.Core.Path.{sym, _∙_}
 use borrow.Author.Needs.{needs}
 use Rattle.gate.proofs.fall.Statement.{statement}
 use Rattle.gate.proofs.fall.Tie as tie
 
 returns : tie.Need-returns
-returns c = simp (c .change-output-state .ensures, sym (c .before .before .high-on-fall .ensures) ∙ c .before .if1 .taken, c .before .before .before .stop .ensures)
-
-returns-2 : tie.Need-returns-2
-returns-2 c = simp (sym (c .before .high-on-fall .ensures) ∙ c .if1 .left, c .before .before .stop .ensures)
+returns c = simp (c .raise .ensures, c .before .stop .ensures)
 
 pub fall-spec : {M : Type 1} → statement M
-fall-spec = tie.close (tie.spec (λ c κs. search needs) (λ c κs. search needs) (λ c κs. search needs) returns returns-2)
+fall-spec = tie.close (tie.spec (λ c κs. search needs) (λ c κs. search needs) returns)
