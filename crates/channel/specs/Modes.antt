@@ -1,5 +1,7 @@
 -- What depends on the mode, as a row of document 01's modes 0 to 5.
 use Prim.Native.Nat.{ℕ}
+use mathlib.Core.List.{List, [], _∷_}
+use lib.ListN.{getD}
 use Rattle.channel.specs.declared.ChannelMode.{ChannelMode}
 use Rattle.channel.specs.declared.ChannelMode.the-variants.{InterruptOnTerminalCount, HardwareRetriggerableOneShot, RateGenerator, SquareWaveGenerator, SoftwareTriggeredStrobe, HardwareTriggeredStrobe}
 
@@ -14,3 +16,12 @@ byMode m0 m1 m2 m3 m4 m5 HardwareTriggeredStrobe = m5
 
 abbrev pub modeNumber : ChannelMode → ℕ
 modeNumber = byMode 0 1 2 3 4 5
+
+-- modes 0 to 4
+abbrev pub firstModes : List ChannelMode
+firstModes =
+    InterruptOnTerminalCount ∷ HardwareRetriggerableOneShot ∷ RateGenerator ∷ SquareWaveGenerator ∷ SoftwareTriggeredStrobe ∷ []
+
+-- the mode that a number names: any from 5 on names mode 5
+abbrev pub modeNumbered : ℕ → ChannelMode
+modeNumbered n = getD firstModes n HardwareTriggeredStrobe

@@ -4,6 +4,7 @@
 // pins. `Reloading` has what a mode leaves behind for its loads, and `dirty` stands alone. No record holds its channel's number; its place
 // on the board is its number.
 pub mod fresh;
+pub mod number;
 pub mod queries;
 pub mod shared;
 

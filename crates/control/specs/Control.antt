@@ -1,12 +1,10 @@
 -- Document 01, "Control byte": what a byte written to the command port asks for.
 use Prim.Native.Nat.{ℕ, _-_, _/_, _%_}
 use mathlib.Core.Bool.{Bool, cond}
-use mathlib.Core.List.{[], _∷_}
 use lib.Dec.{eqb, ltb}
-use lib.ListN.{getD}
 use Rattle.channel.specs.declared.ControlWord.{ControlWord}
 use Rattle.channel.specs.declared.ChannelMode.{ChannelMode}
-use Rattle.channel.specs.declared.ChannelMode.the-variants.{InterruptOnTerminalCount, HardwareRetriggerableOneShot, RateGenerator, SquareWaveGenerator, SoftwareTriggeredStrobe, HardwareTriggeredStrobe}
+use Rattle.channel.specs.Modes.{modeNumbered}
 use Rattle.channel.specs.declared.RwMode.{RwMode}
 use Rattle.channel.specs.declared.RwMode.the-variants.{Lsb, Msb, LsbMsb}
 use Rattle.control.specs.declared.Command.{Command}
@@ -25,18 +23,9 @@ accessBits byte = byte / 16 % 4
 abbrev pub channelBits : ℕ → ℕ
 channelBits byte = byte / 64
 
--- modes 0 to 5, in the order of their numbers
-abbrev pub firstModes : ℕ → ChannelMode
-firstModes n =
-    getD
-    (InterruptOnTerminalCount ∷ HardwareRetriggerableOneShot ∷ RateGenerator ∷ SquareWaveGenerator ∷ SoftwareTriggeredStrobe
-    ∷ HardwareTriggeredStrobe ∷ [])
-    n
-    InterruptOnTerminalCount
-
 -- "Modes 6 and 7 mean 2 and 3"
 abbrev pub modeOf : ℕ → ChannelMode
-modeOf n = cond (ltb 5 n) (firstModes (n - 4)) (firstModes n)
+modeOf n = cond (ltb 5 n) (modeNumbered (n - 4)) (modeNumbered n)
 
 -- "Access 0 latch, 1 low, 2 high, 3 low then high."
 abbrev pub accessOf : ℕ → RwMode

@@ -4,7 +4,7 @@ use channel::ControlWord;
 use channel::RwMode;
 ghost use mathlib.Core.Path.{_≡_};
 ghost use Prim.Native.Nat.{_<_};
-ghost use Rattle.control.specs.Control.{firstModes, modeOf, accessOf, commandOf};
+ghost use Rattle.control.specs.Control.{modeOf, accessOf, commandOf};
 
 pub enum Command {
     // Channel 3, on either model.
@@ -15,28 +15,14 @@ pub enum Command {
     SetMode(u8, ControlWord),
 }
 
-fn first_modes(n: u8) -> ChannelMode
-    requires { ⌜ n < 6 ⌝ }
-    ensures { λ r. ⌜ r ≡ firstModes n ⌝ }
-{
-    match n {
-        0 => ChannelMode::InterruptOnTerminalCount,
-        1 => ChannelMode::HardwareRetriggerableOneShot,
-        2 => ChannelMode::RateGenerator,
-        3 => ChannelMode::SquareWaveGenerator,
-        4 => ChannelMode::SoftwareTriggeredStrobe,
-        _ => ChannelMode::HardwareTriggeredStrobe,
-    }
-}
-
 fn mode_of(n: u8) -> ChannelMode
     requires { ⌜ n < 8 ⌝ }
     ensures { λ r. ⌜ r ≡ modeOf n ⌝ }
 {
     if 5 < n {
-        first_modes(n - 4)
+        ChannelMode::numbered(n - 4)
     } else {
-        first_modes(n)
+        ChannelMode::numbered(n)
     }
 }
 

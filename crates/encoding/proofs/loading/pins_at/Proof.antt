@@ -1,0 +1,17 @@
+-- `encoding::loading::pins_at` meets its contract. Assumes nothing.
+use borrow.Author.Needs.{needs}
+use Rattle.encoding.proofs.loading.pins_at.Statement.{statement}
+use Rattle.encoding.proofs.loading.pins_at.Tie as tie
+
+returns : tie.Need-returns
+returns c = simp (c .flag-of2 .ensures, c .before .before .flag-of .ensures)
+
+pub pins-at-spec : {M : Type 1} → statement M
+pins-at-spec =
+    tie.close
+    (tie.spec
+    (λ c. search needs)
+    (λ c κs. search needs)
+    (λ c. search needs)
+    (λ c κs. search needs)
+    returns)

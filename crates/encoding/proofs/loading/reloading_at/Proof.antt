@@ -1,0 +1,20 @@
+-- `encoding::loading::reloading_at` meets its contract. Assumes nothing.
+use borrow.Author.Needs.{needs}
+use Rattle.encoding.proofs.loading.reloading_at.Statement.{statement}
+use Rattle.encoding.proofs.loading.reloading_at.Tie as tie
+
+returns : tie.Need-returns
+returns c = simp (c .word .ensures, c .before .before .before .flag-of2 .ensures, c .before .before .before .before .before .flag-of .ensures)
+
+pub reloading-at-spec : {M : Type 1} → statement M
+reloading-at-spec =
+    tie.close
+    (tie.spec
+    (λ c. search needs)
+    (λ c κs. search needs)
+    (λ c. search needs)
+    (λ c κs. search needs)
+    (λ c. search needs)
+    (λ c. search needs)
+    (λ c κs. search needs)
+    returns)

@@ -1,0 +1,4 @@
+pub mod Codes
+pub mod Stored
+pub mod Loaded
+pub mod Front

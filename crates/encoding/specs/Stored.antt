@@ -1,0 +1,52 @@
+-- docs/ENCODING.md, "A channel's record": the 29 bytes of a channel, group by group in the order of the record.
+use Prim.Native.Nat.{ℕ, _/_, _%_}
+use mathlib.Core.List.{List, [], _∷_, _++_}
+use Rattle.channel.specs.declared.Channel.{Channel}
+use Rattle.channel.specs.declared.ControlWord.{ControlWord}
+use Rattle.channel.specs.declared.Reloading.{Reloading}
+use Rattle.channel.specs.declared.Load.{Load}
+use Rattle.channel.specs.declared.Counter.{Counter}
+use Rattle.channel.specs.declared.Latch.{Latch}
+use Rattle.channel.specs.declared.Pins.{Pins}
+use Rattle.channel.specs.Modes.{modeNumber}
+use Rattle.encoding.specs.Codes.{flagByte, accessByte, loadStateByte, loadTypeByte, readStateByte, stateByte}
+
+-- "Numbers are little-endian."
+abbrev pub twoBytes : ℕ → List ℕ
+twoBytes n = n % 256 ∷ n / 256 % 256 ∷ []
+
+abbrev pub fourBytes : ℕ → List ℕ
+fourBytes n = n % 256 ∷ n / 256 % 256 ∷ n / 256 / 256 % 256 ∷ n / 256 / 256 / 256 % 256 ∷ []
+
+-- places 0 to 2
+abbrev pub controlBytes : ControlWord → List ℕ
+controlBytes w = modeNumber (w .mode) ∷ accessByte (w .«rw_mode») ∷ flagByte (w .«bcd_mode») ∷ []
+
+-- places 3 to 6
+abbrev pub reloadingBytes : Reloading → List ℕ
+reloadingBytes rule = flagByte (rule .«output_on_reload») ∷ flagByte (rule .«reload_on_trigger») ∷ twoBytes (rule .«load_mask»)
+
+-- places 7 to 13
+abbrev pub loadBytes : Load → List ℕ
+loadBytes l =
+    twoBytes (l .«count_register») ++ twoBytes (l .«reload_value»)
+    ++ loadStateByte (l .«load_state») ∷ loadTypeByte (l .«load_type») ∷ flagByte (l .armed) ∷ []
+
+-- places 14 to 21
+abbrev pub counterBytes : Counter → List ℕ
+counterBytes k =
+    stateByte (k .«channel_state») ∷ fourBytes (k .«cycles_in_state») ++ twoBytes (k .«counting_element») ++ flagByte (k .ticked) ∷ []
+
+-- places 22 to 25
+abbrev pub latchBytes : Latch → List ℕ
+latchBytes l = twoBytes (l .«output_latch») ++ flagByte (l .«count_is_latched») ∷ readStateByte (l .«read_state») ∷ []
+
+-- places 26 and 27
+abbrev pub pinsBytes : Pins → List ℕ
+pinsBytes p = flagByte (p .gate) ∷ flagByte (p .output) ∷ []
+
+-- place 28 is dirty
+unfoldable pub channelBytes : Channel → List ℕ
+channelBytes c =
+    controlBytes (c .control) ++ reloadingBytes (c .reloading) ++ loadBytes (c .load) ++ counterBytes (c .counter) ++ latchBytes (c .latch)
+    ++ pinsBytes (c .pins) ++ flagByte (c .dirty) ∷ []

@@ -1,0 +1,193 @@
+// A channel out of its 29 bytes, where they are readable.
+use crate::codes;
+use channel::Channel;
+use channel::ChannelMode;
+use channel::ControlWord;
+use channel::Counter;
+use channel::Latch;
+use channel::Load;
+use channel::Pins;
+use channel::Reloading;
+ghost use mathlib.Core.Path.{_≡_};
+ghost use Prim.Native.Nat.{_+_, _*_, _≤_};
+ghost use lib.ListN.{length};
+ghost use Rattle.encoding.specs.Loaded.{readable, controlAt, reloadingAt, loadAt, counterAt, latchAt, pinsAt, channelAt, loadChannel};
+
+// What loading a channel finds.
+pub enum Loaded {
+    Whole(Channel),
+    // Fewer bytes than a record has.
+    Short,
+    // A byte above its limit.
+    Unreadable,
+}
+
+// The greatest byte that is readable at each place.
+const LIMITS: [u8; 29] = [
+    5,
+    2,
+    1,
+    1,
+    1,
+    255,
+    255,
+    255,
+    255,
+    255,
+    255,
+    1,
+    1,
+    1,
+    6,
+    255,
+    255,
+    255,
+    255,
+    255,
+    255,
+    1,
+    255,
+    255,
+    1,
+    1,
+    1,
+    1,
+    1,
+];
+
+fn readable(bytes: &[u8]) -> bool
+    requires { ⌜ 29 ≤ length (now bytes) ⌝ }
+    ensures { λ r. ⌜ r ≡ readable (now (bytes .entry)) ⌝ }
+{
+    let mut i = 0;
+    while i < 29 {
+        if LIMITS[i] < bytes[i] {
+            return false;
+        }
+        i += 1;
+    }
+    true
+}
+
+fn word(low: u8, high: u8) -> u16
+    ensures { λ r. ⌜ r ≡ low + 256 * high ⌝ }
+{
+    low as u16 + 256 * (high as u16)
+}
+
+fn long(low: u16, high: u16) -> u32
+    ensures { λ r. ⌜ r ≡ low + 65536 * high ⌝ }
+{
+    low as u32 + 65536 * (high as u32)
+}
+
+fn control_at(bytes: &[u8]) -> ControlWord
+    requires { ⌜ 29 ≤ length (now bytes) ⌝ }
+    ensures { λ r. ⌜ r ≡ controlAt (now (bytes .entry)) ⌝ }
+{
+    let mode = ChannelMode::numbered(bytes[0]);
+    let rw_mode = codes::access_coded(bytes[1]);
+    let bcd_mode = codes::flag_of(bytes[2]);
+    ControlWord {
+        mode,
+        rw_mode,
+        bcd_mode,
+    }
+}
+
+fn reloading_at(bytes: &[u8]) -> Reloading
+    requires { ⌜ 29 ≤ length (now bytes) ⌝ }
+    ensures { λ r. ⌜ r ≡ reloadingAt (now (bytes .entry)) ⌝ }
+{
+    Reloading {
+        output_on_reload: codes::flag_of(bytes[3]),
+        reload_on_trigger: codes::flag_of(bytes[4]),
+        load_mask: word(bytes[5], bytes[6]),
+    }
+}
+
+fn load_at(bytes: &[u8]) -> Load
+    requires { ⌜ 29 ≤ length (now bytes) ⌝ }
+    ensures { λ r. ⌜ r ≡ loadAt (now (bytes .entry)) ⌝ }
+{
+    let load_state = codes::load_state_coded(bytes[11]);
+    let load_type = codes::load_type_coded(bytes[12]);
+    Load {
+        count_register: word(bytes[7], bytes[8]),
+        reload_value: word(bytes[9], bytes[10]),
+        load_state,
+        load_type,
+        armed: codes::flag_of(bytes[13]),
+    }
+}
+
+fn counter_at(bytes: &[u8]) -> Counter
+    requires { ⌜ 29 ≤ length (now bytes) ⌝ }
+    ensures { λ r. ⌜ r ≡ counterAt (now (bytes .entry)) ⌝ }
+{
+    let channel_state = codes::state_coded(bytes[14]);
+    let low = word(bytes[15], bytes[16]);
+    let high = word(bytes[17], bytes[18]);
+    Counter {
+        channel_state,
+        cycles_in_state: long(low, high),
+        counting_element: word(bytes[19], bytes[20]),
+        ticked: codes::flag_of(bytes[21]),
+    }
+}
+
+fn latch_at(bytes: &[u8]) -> Latch
+    requires { ⌜ 29 ≤ length (now bytes) ⌝ }
+    ensures { λ r. ⌜ r ≡ latchAt (now (bytes .entry)) ⌝ }
+{
+    let read_state = codes::read_state_coded(bytes[25]);
+    Latch {
+        output_latch: word(bytes[22], bytes[23]),
+        count_is_latched: codes::flag_of(bytes[24]),
+        read_state,
+    }
+}
+
+fn pins_at(bytes: &[u8]) -> Pins
+    requires { ⌜ 29 ≤ length (now bytes) ⌝ }
+    ensures { λ r. ⌜ r ≡ pinsAt (now (bytes .entry)) ⌝ }
+{
+    Pins {
+        gate: codes::flag_of(bytes[26]),
+        output: codes::flag_of(bytes[27]),
+    }
+}
+
+fn channel_at(bytes: &[u8]) -> Channel
+    requires { ⌜ 29 ≤ length (now bytes) ⌝ }
+    ensures { λ r. ⌜ r ≡ channelAt (now (bytes .entry)) ⌝ }
+{
+    let control = control_at(bytes);
+    let reloading = reloading_at(bytes);
+    let load = load_at(bytes);
+    let counter = counter_at(bytes);
+    let latch = latch_at(bytes);
+    let pins = pins_at(bytes);
+    let dirty = codes::flag_of(bytes[28]);
+    Channel {
+        control,
+        reloading,
+        load,
+        counter,
+        latch,
+        pins,
+        dirty,
+    }
+}
+
+pub fn load_channel(bytes: &[u8]) -> Loaded
+    ensures { λ r. ⌜ r ≡ loadChannel (now (bytes .entry)) ⌝ }
+{
+    if bytes.len() < 29 {
+        return Loaded::Short;
+    }
+    if readable(bytes) {
+        return Loaded::Whole(channel_at(bytes));
+    }
+    Loaded::Unreadable
+}

@@ -1,0 +1,177 @@
+// A channel as its 29 bytes, and bytes put at the front of a lent buffer.
+use crate::codes;
+use channel::Channel;
+use channel::ControlWord;
+use channel::Counter;
+use channel::Latch;
+use channel::Load;
+use channel::Pins;
+use channel::Reloading;
+ghost use mathlib.Core.Path.{_≡_};
+ghost use Prim.Native.Nat.{_%_};
+ghost use lib.ListN.{length};
+ghost use Rattle.encoding.specs.Stored.{twoBytes, fourBytes, controlBytes, reloadingBytes, loadBytes, counterBytes, latchBytes, pinsBytes, channelBytes};
+ghost use Rattle.encoding.specs.Front.{fits, putFront};
+
+fn low(n: u32) -> u8
+    ensures { λ r. ⌜ r ≡ n % 256 ⌝ }
+{
+    (n % 256) as u8
+}
+
+fn four_bytes(n: u32) -> [u8; 4]
+    ensures { λ r. ⌜ r ≡ fourBytes n ⌝ }
+{
+    [
+        low(n),
+        low(n / 256),
+        low(n / 256 / 256),
+        low(n / 256 / 256 / 256),
+    ]
+}
+
+pub fn two_bytes(n: u16) -> [u8; 2]
+    ensures { λ r. ⌜ r ≡ twoBytes n ⌝ }
+{
+    let wide = n as u32;
+    [low(wide), low(wide / 256)]
+}
+
+fn control_bytes(w: ControlWord) -> [u8; 3]
+    ensures { λ r. ⌜ r ≡ controlBytes w ⌝ }
+{
+    let mode = w.mode;
+    let access = w.rw_mode;
+    [
+        mode.number(),
+        codes::access_byte(access),
+        codes::flag_byte(w.bcd_mode),
+    ]
+}
+
+fn reloading_bytes(rule: Reloading) -> [u8; 4]
+    ensures { λ r. ⌜ r ≡ reloadingBytes rule ⌝ }
+{
+    let mask = two_bytes(rule.load_mask);
+    [
+        codes::flag_byte(rule.output_on_reload),
+        codes::flag_byte(rule.reload_on_trigger),
+        mask[0],
+        mask[1],
+    ]
+}
+
+fn load_bytes(l: Load) -> [u8; 7]
+    ensures { λ r. ⌜ r ≡ loadBytes l ⌝ }
+{
+    let load_state = l.load_state;
+    let load_type = l.load_type;
+    let register = two_bytes(l.count_register);
+    let reload = two_bytes(l.reload_value);
+    [
+        register[0],
+        register[1],
+        reload[0],
+        reload[1],
+        codes::load_state_byte(load_state),
+        codes::load_type_byte(load_type),
+        codes::flag_byte(l.armed),
+    ]
+}
+
+fn counter_bytes(k: Counter) -> [u8; 8]
+    ensures { λ r. ⌜ r ≡ counterBytes k ⌝ }
+{
+    let state = k.channel_state;
+    let cycles = four_bytes(k.cycles_in_state);
+    let element = two_bytes(k.counting_element);
+    [
+        codes::state_byte(state),
+        cycles[0],
+        cycles[1],
+        cycles[2],
+        cycles[3],
+        element[0],
+        element[1],
+        codes::flag_byte(k.ticked),
+    ]
+}
+
+fn latch_bytes(l: Latch) -> [u8; 4]
+    ensures { λ r. ⌜ r ≡ latchBytes l ⌝ }
+{
+    let read_state = l.read_state;
+    let held = two_bytes(l.output_latch);
+    [
+        held[0],
+        held[1],
+        codes::flag_byte(l.count_is_latched),
+        codes::read_state_byte(read_state),
+    ]
+}
+
+fn pins_bytes(p: Pins) -> [u8; 2]
+    ensures { λ r. ⌜ r ≡ pinsBytes p ⌝ }
+{
+    [codes::flag_byte(p.gate), codes::flag_byte(p.output)]
+}
+
+pub fn channel_bytes(c: Channel) -> [u8; 29]
+    ensures { λ r. ⌜ r ≡ channelBytes c ⌝ }
+{
+    let control = c.control;
+    let reloading = c.reloading;
+    let load = c.load;
+    let counter = c.counter;
+    let latch = c.latch;
+    let pins = c.pins;
+    let w = control_bytes(control);
+    let r = reloading_bytes(reloading);
+    let l = load_bytes(load);
+    let k = counter_bytes(counter);
+    let t = latch_bytes(latch);
+    let p = pins_bytes(pins);
+    let d = codes::flag_byte(c.dirty);
+    [
+        w[0],
+        w[1],
+        w[2],
+        r[0],
+        r[1],
+        r[2],
+        r[3],
+        l[0],
+        l[1],
+        l[2],
+        l[3],
+        l[4],
+        l[5],
+        l[6],
+        k[0],
+        k[1],
+        k[2],
+        k[3],
+        k[4],
+        k[5],
+        k[6],
+        k[7],
+        t[0],
+        t[1],
+        t[2],
+        t[3],
+        p[0],
+        p[1],
+        d,
+    ]
+}
+
+// Whether they fit. Where not, the buffer stays as it was.
+pub fn put_front(bytes: &mut [u8], front: &[u8]) -> bool
+    ensures { λ r. ⌜ (r ≡ fits (length (now (front .entry))) (now (bytes .entry))) × (now (bytes .exit) ≡ putFront (now (front .entry)) (now (bytes .entry))) ⌝ }
+{
+    if bytes.len() < front.len() {
+        return false;
+    }
+    bytes::copy(front, bytes);
+    true
+}
