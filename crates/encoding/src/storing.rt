@@ -1,12 +1,6 @@
 // A channel as its 29 bytes, and bytes put at the front of a lent buffer.
 use crate::codes;
 use channel::Channel;
-use channel::ControlWord;
-use channel::Counter;
-use channel::Latch;
-use channel::Load;
-use channel::Pins;
-use channel::Reloading;
 ghost use mathlib.Core.Path.{_≡_};
 ghost use Prim.Native.Nat.{_%_};
 ghost use lib.ListN.{length};
@@ -37,9 +31,10 @@ pub fn two_bytes(n: u16) -> [u8; 2]
     [low(wide), low(wide / 256)]
 }
 
-fn control_bytes(w: ControlWord) -> [u8; 3]
-    ensures { λ r. ⌜ r ≡ controlBytes w ⌝ }
+fn control_bytes(c: Channel) -> [u8; 3]
+    ensures { λ r. ⌜ r ≡ controlBytes (c .control) ⌝ }
 {
+    let w = c.control;
     let mode = w.mode;
     let access = w.rw_mode;
     [
@@ -49,9 +44,10 @@ fn control_bytes(w: ControlWord) -> [u8; 3]
     ]
 }
 
-fn reloading_bytes(rule: Reloading) -> [u8; 4]
-    ensures { λ r. ⌜ r ≡ reloadingBytes rule ⌝ }
+fn reloading_bytes(c: Channel) -> [u8; 4]
+    ensures { λ r. ⌜ r ≡ reloadingBytes (c .reloading) ⌝ }
 {
+    let rule = c.reloading;
     let mask = two_bytes(rule.load_mask);
     [
         codes::flag_byte(rule.output_on_reload),
@@ -61,9 +57,10 @@ fn reloading_bytes(rule: Reloading) -> [u8; 4]
     ]
 }
 
-fn load_bytes(l: Load) -> [u8; 7]
-    ensures { λ r. ⌜ r ≡ loadBytes l ⌝ }
+fn load_bytes(c: Channel) -> [u8; 7]
+    ensures { λ r. ⌜ r ≡ loadBytes (c .load) ⌝ }
 {
+    let l = c.load;
     let load_state = l.load_state;
     let load_type = l.load_type;
     let register = two_bytes(l.count_register);
@@ -79,9 +76,10 @@ fn load_bytes(l: Load) -> [u8; 7]
     ]
 }
 
-fn counter_bytes(k: Counter) -> [u8; 8]
-    ensures { λ r. ⌜ r ≡ counterBytes k ⌝ }
+fn counter_bytes(c: Channel) -> [u8; 8]
+    ensures { λ r. ⌜ r ≡ counterBytes (c .counter) ⌝ }
 {
+    let k = c.counter;
     let state = k.channel_state;
     let cycles = four_bytes(k.cycles_in_state);
     let element = two_bytes(k.counting_element);
@@ -97,9 +95,10 @@ fn counter_bytes(k: Counter) -> [u8; 8]
     ]
 }
 
-fn latch_bytes(l: Latch) -> [u8; 4]
-    ensures { λ r. ⌜ r ≡ latchBytes l ⌝ }
+fn latch_bytes(c: Channel) -> [u8; 4]
+    ensures { λ r. ⌜ r ≡ latchBytes (c .latch) ⌝ }
 {
+    let l = c.latch;
     let read_state = l.read_state;
     let held = two_bytes(l.output_latch);
     [
@@ -110,27 +109,22 @@ fn latch_bytes(l: Latch) -> [u8; 4]
     ]
 }
 
-fn pins_bytes(p: Pins) -> [u8; 2]
-    ensures { λ r. ⌜ r ≡ pinsBytes p ⌝ }
+fn pins_bytes(c: Channel) -> [u8; 2]
+    ensures { λ r. ⌜ r ≡ pinsBytes (c .pins) ⌝ }
 {
+    let p = c.pins;
     [codes::flag_byte(p.gate), codes::flag_byte(p.output)]
 }
 
 pub fn channel_bytes(c: Channel) -> [u8; 29]
     ensures { λ r. ⌜ r ≡ channelBytes c ⌝ }
 {
-    let control = c.control;
-    let reloading = c.reloading;
-    let load = c.load;
-    let counter = c.counter;
-    let latch = c.latch;
-    let pins = c.pins;
-    let w = control_bytes(control);
-    let r = reloading_bytes(reloading);
-    let l = load_bytes(load);
-    let k = counter_bytes(counter);
-    let t = latch_bytes(latch);
-    let p = pins_bytes(pins);
+    let w = control_bytes(c);
+    let r = reloading_bytes(c);
+    let l = load_bytes(c);
+    let k = counter_bytes(c);
+    let t = latch_bytes(c);
+    let p = pins_bytes(c);
     let d = codes::flag_byte(c.dirty);
     [
         w[0],
