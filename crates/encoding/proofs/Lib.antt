@@ -1,2 +1,3 @@
 pub mod Readable
 pub mod Length
+pub mod Back

@@ -2,3 +2,4 @@ pub mod Codes
 pub mod Stored
 pub mod Loaded
 pub mod Front
+pub mod Range

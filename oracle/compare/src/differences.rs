@@ -1,0 +1,199 @@
+//! Runs the smallest inputs of docs/DIFFERENCES.md, a file of oracle/differences for each. Its README has the words that a file may use.
+
+use crate::fields::Field;
+use crate::operations::operation;
+use crate::ours::{Frame, Ours};
+use original::pit::operation::{fresh, model, Operation, Oracle};
+use original::pit::record::Record;
+use original::pit::stands;
+use std::fs;
+use std::path::Path;
+
+const FOLDER: &str = concat!(env!("CARGO_MANIFEST_DIR"), "/../differences");
+
+/// One of the two sides: its record, and what the last step answered.
+struct Side {
+    record: Record,
+    answer: u16,
+    /// What the original's own text did beside the record: bus calls, or a panic.
+    seen: String,
+}
+
+impl Side {
+    fn on(record: Record) -> Self {
+        Side { record, answer: 0, seen: String::new() }
+    }
+}
+
+struct Bench<'a> {
+    calls: &'a mut Ours,
+    oracle: Oracle,
+    /// Whether the original runs as it stands, or on document 01's fresh channel, load cycle and reset.
+    as_it_stands: bool,
+    model: u8,
+    ours: Side,
+    original: Side,
+}
+
+/// Runs all files and prints a line for each. Hands back how many do not show what they say.
+pub fn run(calls: &mut Ours) -> Result<u64, String> {
+    let folder = fs::read_dir(FOLDER).map_err(|error| format!("oracle/differences: {error}"))?;
+    let mut paths: Vec<_> = folder.filter_map(|entry| Some(entry.ok()?.path())).collect();
+    paths.retain(|path| path.extension().is_some_and(|end| end == "txt"));
+    paths.sort();
+    let mut failed = 0;
+    for path in &paths {
+        let name = path.file_stem().unwrap_or_default().to_string_lossy().into_owned();
+        match run_file(calls, path) {
+            Ok(says) => println!("{name}: {says}"),
+            Err(why) => {
+                failed += 1;
+                println!("{name}: FAILS: {why}");
+            }
+        }
+    }
+    println!("{} inputs of docs/DIFFERENCES.md run, {failed} fail", paths.len());
+    Ok(failed)
+}
+
+/// Hands back the file's first line, which says what it shows.
+fn run_file(calls: &mut Ours, path: &Path) -> Result<String, String> {
+    let text = fs::read_to_string(path).map_err(|error| error.to_string())?;
+    let mut bench =
+        Bench { calls, oracle: Oracle::default(), as_it_stands: false, model: 0, ours: Side::on(fresh()), original: Side::on(fresh()) };
+    for (line, words) in text.lines().map(|line| line.split('#').next().unwrap_or_default()).enumerate() {
+        let words: Vec<&str> = words.split_whitespace().collect();
+        bench.line(&words).map_err(|why| format!("line {}: {why}", line + 1))?;
+    }
+    if !text.lines().any(|line| line.starts_with("expect ")) {
+        return Err("it expects nothing".to_string());
+    }
+    let first = text.lines().next().and_then(|line| line.strip_prefix("# "));
+    first.map(str::to_string).ok_or("no first line that says what it shows".to_string())
+}
+
+impl Bench<'_> {
+    fn line(&mut self, words: &[&str]) -> Result<(), String> {
+        match *words {
+            [] => Ok(()),
+            ["original", "as", "it", "stands"] => {
+                self.as_it_stands = true;
+                Ok(())
+            }
+            ["original", "by", "01"] => Ok(()),
+            ["model", name] => {
+                let known = ["8253", "8254"].iter().position(|model| *model == name);
+                self.model = known.ok_or(format!("not a model: {name}"))? as u8;
+                Ok(())
+            }
+            ["start", "fresh"] => self.start_fresh(),
+            ["start", "record", ref fields @ ..] => self.start_record(fields),
+            ["convert", number] => {
+                let panics = stands::mode_panics(number.parse().map_err(|_| format!("not a number: {number}"))?);
+                self.original.seen = if panics { "panic" } else { "" }.to_string();
+                Ok(())
+            }
+            ["expect", who, what, ref value @ ..] => self.expect(who, what, &value.join(" ")),
+            _ => self.step(operation_of(words, self.model)?),
+        }
+    }
+
+    fn start_fresh(&mut self) -> Result<(), String> {
+        let reply = self.calls.call(Frame::fresh(&[0; 29], 29));
+        self.ours = Side::on(reply.record());
+        self.original = Side::on(if self.as_it_stands { stands::fresh(model(self.model)) } else { fresh() });
+        self.agree()
+    }
+
+    fn start_record(&mut self, fields: &[&str]) -> Result<(), String> {
+        let mut record = fresh();
+        for word in fields {
+            let (name, value) = word.split_once('=').ok_or(format!("not a field and a value: {word}"))?;
+            let field = Field::named(name).ok_or(format!("not a field: {name}"))?;
+            field.put(&mut record, field.parse(value).ok_or(format!("not a value of {name}: {value}"))?);
+        }
+        (self.ours, self.original) = (Side::on(record), Side::on(record));
+        Ok(())
+    }
+
+    /// One operation on both sides.
+    fn step(&mut self, op: Operation) -> Result<(), String> {
+        let reply = self.calls.call(Frame::operation(&self.ours.record, op));
+        if reply.status() != 0 {
+            return Err(format!("ours refuses with {}", reply.status()));
+        }
+        self.ours = Side { record: reply.record(), answer: first(&reply.answer()), seen: String::new() };
+
+        let (start, ptype) = (self.original.record, model(self.model));
+        let seen = stands::calls_of(&start, op).iter().map(|call| format!("{call:?}")).collect::<Vec<_>>().join(" ");
+        self.original = match (self.as_it_stands, op.code) {
+            (true, 5) => Side::on(stands::tick(&start, ptype)),
+            (true, 8) => Side::on(stands::reset(&start, ptype)),
+            _ => {
+                let outcome = self.oracle.operation(&start, op);
+                if let Some(fault) = outcome.fault {
+                    return Err(fault.to_string());
+                }
+                Side { record: outcome.record, answer: first(&outcome.answer), seen }
+            }
+        };
+        self.agree()
+    }
+
+    /// On document 01's channel the two sides never differ: the row is then a difference from a sheet.
+    fn agree(&self) -> Result<(), String> {
+        if !self.as_it_stands && (self.ours.record, self.ours.answer) != (self.original.record, self.original.answer) {
+            return Err("ours and the original differ".to_string());
+        }
+        Ok(())
+    }
+
+    fn expect(&self, who: &str, what: &str, value: &str) -> Result<(), String> {
+        let sides = match who {
+            "ours" => vec![("ours", &self.ours)],
+            "original" => vec![("the original", &self.original)],
+            "both" => vec![("ours", &self.ours), ("the original", &self.original)],
+            _ => return Err(format!("not a side: {who}")),
+        };
+        for (name, side) in sides {
+            let (due, is) = due_and_is(side, what, value)?;
+            if due != is {
+                return Err(format!("{name}: {what} {due} is due, it is {is}"));
+            }
+        }
+        Ok(())
+    }
+}
+
+fn first(answer: &[u8; 7]) -> u16 {
+    u16::from_le_bytes([answer[1], answer[2]])
+}
+
+/// What a line expects and what is there, both as they are written.
+fn due_and_is(side: &Side, what: &str, value: &str) -> Result<(String, String), String> {
+    Ok(match what {
+        "read" => (value.to_string(), format!("{:02X}", side.answer)),
+        "named" => (value.to_string(), side.answer.to_string()),
+        "seen" => (value.to_string(), side.seen.clone()),
+        _ => {
+            let field = Field::named(what).ok_or(format!("nothing to expect: {what}"))?;
+            let due = field.parse(value).ok_or(format!("not a value of {what}: {value}"))?;
+            (field.show(due), field.show(field.get(&side.record)))
+        }
+    })
+}
+
+fn operation_of(words: &[&str], model: u8) -> Result<Operation, String> {
+    let hex = |word: &str| u8::from_str_radix(word, 16).map_err(|_| format!("not a hex byte: {word}"));
+    Ok(match *words {
+        ["control", byte] => operation(16, hex(byte)?, model),
+        ["byte", byte] => operation(1, hex(byte)?, 0),
+        ["byte", byte, "deferred"] => operation(1, hex(byte)?, 1),
+        ["read"] => operation(2, 0, 0),
+        ["gate", level @ ("0" | "1")] => operation(3, hex(level)?, 0),
+        ["count"] => operation(4, 0, 0),
+        ["load"] => operation(5, 0, 0),
+        ["reset"] => operation(8, 0, 0),
+        _ => return Err(format!("not a step: {}", words.join(" "))),
+    })
+}

@@ -1,0 +1,169 @@
+//! Every combination of what an operation goes by, from a record whose other fields tell a missed or a wrong store.
+
+use crate::fields::*;
+use crate::judge::Judge;
+use crate::operations::{operation, QUERIES};
+use original::pit::operation::fresh;
+use original::pit::record::Record;
+
+pub const FLAG: &[u32] = &[0, 1];
+pub const ACCESSES: &[u32] = &[0, 1, 2];
+pub const MODES: &[u32] = &[0, 1, 2, 3, 4, 5];
+pub const STATES: &[u32] = &[0, 1, 2, 3, 4, 5, 6];
+const MASKS: &[u32] = &[0xFFFF, 0xFFFE, 0, 0x0F0F, 0x8001];
+const LATCHES: &[u32] = &[0, 1, 0xFF, 0x100, 0xFF00, 0x1234, 0xA55A, 0xFFFF];
+
+/// A record whose numbers are all different, so that one stored in another's place shows.
+fn telling() -> Record {
+    let mut record = fresh();
+    for (field, value) in [(MASK, 0xFFFE), (REGISTER, 0x1234), (RELOAD, 0x5679), (CYCLES, 0x0A0B_0C0D), (ELEMENT, 0x9ABC), (LATCH, 0xDEF1)]
+    {
+        field.put(&mut record, value);
+    }
+    record
+}
+
+pub fn run(judge: &mut Judge) {
+    counts(judge);
+    writes(judge);
+    controls(judge);
+    gates(judge);
+    reads(judge);
+    loads(judge);
+    queries(judge);
+    judge.settle();
+}
+
+/// Every start of the counting element, in both radixes, latched and not.
+fn counts(judge: &mut Judge) {
+    let starts: Vec<u32> = (0..=0xFFFF).collect();
+    each_combination(&telling(), &[(BCD, FLAG), (LATCHED, FLAG), (ELEMENT, &starts)], &mut |record| {
+        judge.ask(record, operation(4, 0, 0));
+    });
+    each_combination(
+        &telling(),
+        &[(STATE, STATES), (MODE, MODES), (TICKED, FLAG), (GATE, FLAG), (OUTPUT, FLAG), (BCD, FLAG)],
+        &mut |record| {
+            judge.ask(record, operation(4, 0, 0));
+        },
+    );
+}
+
+/// Every byte in every access, at every place of a load, in every mode and state.
+fn writes(judge: &mut Judge) {
+    let chosen: &[(&Field, &[u32])] = &[
+        (ACCESS, ACCESSES),
+        (LOAD_STATE, FLAG),
+        (LOAD_TYPE, FLAG),
+        (MODE, MODES),
+        (RELOAD_ON_TRIGGER, FLAG),
+        (STATE, STATES),
+        (OUTPUT, FLAG),
+    ];
+    each_combination(&telling(), chosen, &mut |record| {
+        for byte in 0..=255 {
+            judge.ask(record, operation(1, byte, 0));
+            judge.ask(record, operation(1, byte, 1));
+        }
+    });
+    let flags: &[(&Field, &[u32])] = &[(ARMED, FLAG), (DIRTY, FLAG), (LATCHED, FLAG), (READ_STATE, FLAG), (GATE, FLAG), (TICKED, FLAG)];
+    each_combination(&telling(), &[&chosen[..4], flags].concat(), &mut |record| {
+        judge.ask(record, operation(1, 0x81, 0));
+        judge.ask(record, operation(1, 0x81, 1));
+    });
+}
+
+/// Every control byte on both models, over some hundreds of records that have each value of each discrete field.
+fn controls(judge: &mut Judge) {
+    let mut records = vec![fresh()];
+    each_combination(&telling(), &[(MODE, MODES), (STATE, STATES), (OUTPUT, FLAG), (RELOAD_ON_TRIGGER, FLAG)], &mut |record| {
+        records.push(*record)
+    });
+    each_combination(&telling(), &[(ACCESS, ACCESSES), (LOAD_STATE, FLAG), (LOAD_TYPE, FLAG), (ARMED, FLAG), (BCD, FLAG)], &mut |record| {
+        records.push(*record);
+    });
+    each_combination(
+        &telling(),
+        &[(READ_STATE, FLAG), (LATCHED, FLAG), (DIRTY, FLAG), (TICKED, FLAG), (GATE, FLAG), (OUTPUT_ON_RELOAD, FLAG)],
+        &mut |record| {
+            records.push(*record);
+        },
+    );
+    each_combination(&telling(), &[(MASK, MASKS), (LATCH, LATCHES), (ELEMENT, &[0, 1, 0x9ABC])], &mut |record| records.push(*record));
+    for record in &records {
+        for byte in 0..=255 {
+            judge.ask(record, operation(16, byte, 0));
+            judge.ask(record, operation(16, byte, 1));
+        }
+    }
+}
+
+/// Every edge, and every level that stands, in every mode and state.
+fn gates(judge: &mut Judge) {
+    let chosen: &[(&Field, &[u32])] = &[
+        (MODE, MODES),
+        (STATE, STATES),
+        (GATE, FLAG),
+        (OUTPUT, FLAG),
+        (DIRTY, FLAG),
+        (CYCLES, &[0, 1, 0xFFFF_FFFF]),
+        (RELOAD_ON_TRIGGER, FLAG),
+        (ARMED, FLAG),
+        (LATCHED, FLAG),
+    ];
+    each_combination(&telling(), chosen, &mut |record| {
+        judge.ask(record, operation(3, 0, 0));
+        judge.ask(record, operation(3, 1, 0));
+    });
+}
+
+/// Every place of a read in every access, latched and not, and the three reads that follow.
+fn reads(judge: &mut Judge) {
+    let chosen: &[(&Field, &[u32])] = &[
+        (READ_STATE, FLAG),
+        (ACCESS, ACCESSES),
+        (LATCHED, FLAG),
+        (LATCH, LATCHES),
+        (STATE, STATES),
+        (MODE, MODES),
+        (DIRTY, FLAG),
+        (BCD, FLAG),
+    ];
+    each_combination(&telling(), chosen, &mut |record| {
+        let mut record = *record;
+        for _ in 0..4 {
+            record = judge.ask(&record, operation(2, 0, 0));
+        }
+    });
+}
+
+/// A load cycle from every state, in every mode, with several masks, and the one that follows.
+fn loads(judge: &mut Judge) {
+    let chosen: &[(&Field, &[u32])] = &[
+        (STATE, STATES),
+        (MODE, MODES),
+        (MASK, MASKS),
+        (LATCHED, FLAG),
+        (RELOAD, LATCHES),
+        (DIRTY, FLAG),
+        (OUTPUT, FLAG),
+        (OUTPUT_ON_RELOAD, FLAG),
+        (GATE, FLAG),
+    ];
+    each_combination(&telling(), chosen, &mut |record| {
+        let next = judge.ask(record, operation(5, 0, 0));
+        judge.ask(&next, operation(5, 0, 0));
+    });
+}
+
+/// The queries and the reset, over modes, states and flags.
+fn queries(judge: &mut Judge) {
+    let chosen: &[(&Field, &[u32])] =
+        &[(MODE, MODES), (STATE, STATES), (DIRTY, FLAG), (TICKED, FLAG), (OUTPUT, FLAG), (GATE, FLAG), (ACCESS, ACCESSES), (ARMED, FLAG)];
+    each_combination(&telling(), chosen, &mut |record| {
+        for code in QUERIES {
+            judge.ask(record, operation(code, 0, 0));
+        }
+        judge.ask(record, operation(8, 0, 0));
+    });
+}

@@ -1,0 +1,10 @@
+//! The original's text, unchanged, and below it the modules that reach its private fields and functions.
+#![allow(dead_code, clippy::all)]
+
+include!(env!("PIT_RS_TEXT"));
+
+pub mod added;
+pub mod control;
+pub mod operation;
+pub mod record;
+pub mod stands;
