@@ -1,5 +1,5 @@
 -- A channel's record with one of its parts put in the place of another. Document 01, "What must change shape": "Struct update is
--- written out." The rules put parts back through these; only the mode set and the fresh channel write the whole record.
+-- written out." The rules put parts back through these; only the mode set, the fresh channel and a record read from bytes are written whole.
 use mathlib.Core.Bool.{Bool}
 use Rattle.channel.specs.declared.Channel.{Channel}
 use Rattle.channel.specs.declared.Load.{Load}

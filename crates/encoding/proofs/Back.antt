@@ -7,6 +7,7 @@ use native.Mathlib.Omega.{arith}
 use lib.Dec.{ltb}
 use lib.ListN.{length, length-append}
 use borrow.Author.Tests.{le-ltb}
+use Rattle.numbers.specs.Flags.{flagNumber}
 use Rattle.channel.specs.declared.Channel.{Channel}
 use Rattle.channel.specs.declared.ChannelMode.{ChannelMode}
 use Rattle.channel.specs.declared.RwMode.{RwMode}
@@ -23,7 +24,7 @@ use Rattle.channel.specs.declared.ChannelState.the-variants.{WaitingForReload, 
 use Rattle.channel.specs.Modes.{modeNumber, modeNumbered}
 use Rattle.channel.proofs.Modes.{every-mode}
 use Rattle.encoding.specs.declared.loading.Loaded.the-variants.{Whole}
-use Rattle.encoding.specs.Codes.{flagByte, flagOf, accessByte, accessCoded, loadStateByte, loadStateCoded, loadTypeByte, loadTypeCoded, readStateByte, readStateCoded, stateByte, stateCoded}
+use Rattle.encoding.specs.Codes.{flagCoded, accessByte, accessCoded, loadStateByte, loadStateCoded, loadTypeByte, loadTypeCoded, readStateByte, readStateCoded, stateByte, stateCoded}
 use Rattle.encoding.specs.Stored.{channelBytes}
 use Rattle.encoding.specs.Loaded.{readableTo, readable, channelAt, loadChannel}
 use Rattle.encoding.specs.Range.{InRange}
@@ -31,11 +32,11 @@ use Rattle.encoding.proofs.Length.{bytes-length}
 
 -- A byte that is stored is within its limit, and means what was stored.
 
-flag-within : (b : Bool) → ltb 1 (flagByte b) ≡ false
+flag-within : (b : Bool) → ltb 1 (flagNumber b) ≡ false
 flag-within true = refl
 flag-within false = refl
 
-flag-back : (b : Bool) → flagOf (flagByte b) ≡ b
+flag-back : (b : Bool) → flagCoded (flagNumber b) ≡ b
 flag-back true = refl
 flag-back false = refl
 

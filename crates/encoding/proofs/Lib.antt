@@ -1,3 +1,4 @@
 pub mod Readable
 pub mod Length
 pub mod Back
+pub mod Order

@@ -18,12 +18,9 @@ use Rattle.channel.specs.declared.ReloadFlag.the-variants.{Normal, ReloadNextCy
 use Rattle.channel.specs.declared.ChannelState.{ChannelState}
 use Rattle.channel.specs.declared.ChannelState.the-variants.{WaitingForReload, WaitingForGate, DeferLoadCycle, WaitingForLoadCycle, WaitingForLoadTrigger, Counting}
 
--- "0 no, 1 yes, as for every flag below"
-abbrev pub flagByte : Bool → ℕ
-flagByte flag = cond flag 1 0
-
-abbrev pub flagOf : ℕ → Bool
-flagOf byte = eqb byte 1
+-- "0 no, 1 yes, as for every flag below": the byte is `flagNumber`
+abbrev pub flagCoded : ℕ → Bool
+flagCoded byte = eqb byte 1
 
 -- "0 low byte, 1 high byte, 2 low then high"
 abbrev pub accessByte : RwMode → ℕ

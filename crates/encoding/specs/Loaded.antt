@@ -14,7 +14,7 @@ use Rattle.channel.specs.declared.Pins.{Pins}
 use Rattle.channel.specs.Modes.{modeNumbered}
 use Rattle.encoding.specs.declared.loading.Loaded.{Loaded}
 use Rattle.encoding.specs.declared.loading.Loaded.the-variants.{Whole, Short, Unreadable}
-use Rattle.encoding.specs.Codes.{flagOf, accessCoded, loadStateCoded, loadTypeCoded, readStateCoded, stateCoded}
+use Rattle.encoding.specs.Codes.{flagCoded, accessCoded, loadStateCoded, loadTypeCoded, readStateCoded, stateCoded}
 
 -- the column "limit" of the table; "of a number's bytes every value is readable"
 abbrev pub limits : List ℕ
@@ -36,7 +36,7 @@ abbrev pub wordAt : List ℕ → ℕ → ℕ
 wordAt bytes k = getD bytes k 0 + 256 * getD bytes (k + 1) 0
 
 abbrev pub flagAt : List ℕ → ℕ → Bool
-flagAt bytes k = flagOf (getD bytes k 0)
+flagAt bytes k = flagCoded (getD bytes k 0)
 
 abbrev pub controlAt : List ℕ → ControlWord
 controlAt bytes =

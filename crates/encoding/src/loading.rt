@@ -87,7 +87,7 @@ fn control_at(bytes: &[u8]) -> ControlWord
 {
     let mode = ChannelMode::numbered(bytes[0]);
     let rw_mode = codes::access_coded(bytes[1]);
-    let bcd_mode = codes::flag_of(bytes[2]);
+    let bcd_mode = codes::flag_coded(bytes[2]);
     ControlWord {
         mode,
         rw_mode,
@@ -100,8 +100,8 @@ fn reloading_at(bytes: &[u8]) -> Reloading
     ensures { λ r. ⌜ r ≡ reloadingAt (now (bytes .entry)) ⌝ }
 {
     Reloading {
-        output_on_reload: codes::flag_of(bytes[3]),
-        reload_on_trigger: codes::flag_of(bytes[4]),
+        output_on_reload: codes::flag_coded(bytes[3]),
+        reload_on_trigger: codes::flag_coded(bytes[4]),
         load_mask: word(bytes[5], bytes[6]),
     }
 }
@@ -117,7 +117,7 @@ fn load_at(bytes: &[u8]) -> Load
         reload_value: word(bytes[9], bytes[10]),
         load_state,
         load_type,
-        armed: codes::flag_of(bytes[13]),
+        armed: codes::flag_coded(bytes[13]),
     }
 }
 
@@ -132,7 +132,7 @@ fn counter_at(bytes: &[u8]) -> Counter
         channel_state,
         cycles_in_state: long(low, high),
         counting_element: word(bytes[19], bytes[20]),
-        ticked: codes::flag_of(bytes[21]),
+        ticked: codes::flag_coded(bytes[21]),
     }
 }
 
@@ -143,7 +143,7 @@ fn latch_at(bytes: &[u8]) -> Latch
     let read_state = codes::read_state_coded(bytes[25]);
     Latch {
         output_latch: word(bytes[22], bytes[23]),
-        count_is_latched: codes::flag_of(bytes[24]),
+        count_is_latched: codes::flag_coded(bytes[24]),
         read_state,
     }
 }
@@ -153,8 +153,8 @@ fn pins_at(bytes: &[u8]) -> Pins
     ensures { λ r. ⌜ r ≡ pinsAt (now (bytes .entry)) ⌝ }
 {
     Pins {
-        gate: codes::flag_of(bytes[26]),
-        output: codes::flag_of(bytes[27]),
+        gate: codes::flag_coded(bytes[26]),
+        output: codes::flag_coded(bytes[27]),
     }
 }
 
@@ -168,7 +168,7 @@ fn channel_at(bytes: &[u8]) -> Channel
     let counter = counter_at(bytes);
     let latch = latch_at(bytes);
     let pins = pins_at(bytes);
-    let dirty = codes::flag_of(bytes[28]);
+    let dirty = codes::flag_coded(bytes[28]);
     Channel {
         control,
         reloading,

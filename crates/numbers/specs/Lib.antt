@@ -1,3 +1,4 @@
 pub mod Modulo
 pub mod Digits
 pub mod Times
+pub mod Flags

@@ -1,6 +1,6 @@
 -- docs/ENCODING.md, "An answer": the channel that an operation leaves and the three numbers that it answers.
 use Prim.Native.Nat.{ℕ}
-use mathlib.Core.Bool.{Bool, cond}
+use Rattle.numbers.specs.Flags.{flagNumber}
 use Rattle.channel.specs.declared.Channel.{Channel}
 use Rattle.channel.specs.declared.PitType.{PitType}
 use Rattle.channel.specs.Fresh.{reset}
@@ -26,10 +26,6 @@ answered c a b d = record { channel = c; first = a; second = b; third = d }
 abbrev pub silent : Channel → Made
 silent c = answered c 0 0 0
 
--- a flag as a number
-abbrev pub asNumber : Bool → ℕ
-asNumber flag = cond flag 1 0
-
 -- "the channel that the byte names; 3 for nothing"
 abbrev pub commanded : Channel → Command → PitType → Made
 commanded c Nothing model = answered c 3 0 0
@@ -44,9 +40,9 @@ operate c Count = silent (count c)
 operate c LoadCycle = silent (loadCycle c)
 operate c Reset = silent (reset c)
 operate c (ControlByte byte model) = commanded c (commandOf byte) model
-operate c GetOutputState = answered c (asNumber (getOutputState c)) 0 0
+operate c GetOutputState = answered c (flagNumber (getOutputState c)) 0 0
 operate c GetChannelCount =
-    answered c (getChannelCount c .«count_register») (getChannelCount c .«counting_element») (asNumber (getChannelCount c .counting))
-operate c DoesChannelRetrigger = answered c (asNumber (doesChannelRetrigger c)) 0 0
+    answered c (getChannelCount c .«count_register») (getChannelCount c .«counting_element») (flagNumber (getChannelCount c .counting))
+operate c DoesChannelRetrigger = answered c (flagNumber (doesChannelRetrigger c)) 0 0
 operate c IsDirty =
-    answered (isDirty c .channel) (asNumber (isDirty c .dirty)) (asNumber (isDirty c .counting)) (asNumber (isDirty c .ticked))
+    answered (isDirty c .channel) (flagNumber (isDirty c .dirty)) (flagNumber (isDirty c .counting)) (flagNumber (isDirty c .ticked))

@@ -4,9 +4,8 @@ use channel::Channel;
 use channel::PitType;
 use control::Command;
 ghost use mathlib.Core.Path.{_≡_};
-ghost use Rattle.operation.specs.Made.{answered, silent, asNumber, commanded, operate};
-ghost use Rattle.channel.specs.Queries.{getChannelCount, isDirty};
-ghost use Rattle.latch.specs.Reading.{readByte};
+ghost use Rattle.numbers.specs.Flags.{flagNumber};
+ghost use Rattle.operation.specs.Made.{answered, silent, commanded, operate};
 
 // The three numbers are 0 where the operation does not answer.
 pub struct Made {
@@ -34,13 +33,13 @@ fn silent(channel: Channel) -> Made
 }
 
 fn as_number(flag: bool) -> u16
-    ensures { λ r. ⌜ r ≡ asNumber flag ⌝ }
+    ensures { λ r. ⌜ r ≡ flagNumber flag ⌝ }
 {
     if flag { 1 } else { 0 }
 }
 
 fn read(c: Channel) -> Made
-    ensures { λ r. ⌜ r ≡ answered (readByte c .channel) (readByte c .byte) 0 0 ⌝ }
+    ensures { λ r. ⌜ r ≡ operate c Operation.ReadByte ⌝ }
 {
     let got = latch::read_byte(c);
     let next = got.channel;
@@ -48,7 +47,7 @@ fn read(c: Channel) -> Made
 }
 
 fn channel_count(c: Channel) -> Made
-    ensures { λ r. ⌜ r ≡ answered c (getChannelCount c .«count_register») (getChannelCount c .«counting_element») (asNumber (getChannelCount c .counting)) ⌝ }
+    ensures { λ r. ⌜ r ≡ operate c Operation.GetChannelCount ⌝ }
 {
     let got = c.get_channel_count();
     answered(
@@ -60,7 +59,7 @@ fn channel_count(c: Channel) -> Made
 }
 
 fn dirty(c: Channel) -> Made
-    ensures { λ r. ⌜ r ≡ answered (isDirty c .channel) (asNumber (isDirty c .dirty)) (asNumber (isDirty c .counting)) (asNumber (isDirty c .ticked)) ⌝ }
+    ensures { λ r. ⌜ r ≡ operate c Operation.IsDirty ⌝ }
 {
     let got = c.is_dirty();
     let next = got.channel;

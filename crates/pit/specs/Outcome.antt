@@ -4,12 +4,12 @@ use mathlib.Core.Bool.{cond}
 use mathlib.Core.Path.{_≡_}
 use mathlib.Core.List.{List, [], _∷_, _++_}
 use lib.Dec.{ltb}
+use Rattle.numbers.specs.Flags.{flagNumber}
 use Rattle.channel.specs.declared.Channel.{Channel}
 use Rattle.channel.specs.Fresh.{fresh}
 use Rattle.channel.specs.Queries.{getOutputState}
 use Rattle.encoding.specs.declared.loading.Loaded.{Loaded}
 use Rattle.encoding.specs.declared.loading.Loaded.the-variants.{Whole, Short, Unreadable}
-use Rattle.encoding.specs.Codes.{flagByte}
 use Rattle.encoding.specs.Stored.{twoBytes, channelBytes}
 use Rattle.encoding.specs.Loaded.{loadChannel}
 use Rattle.encoding.specs.Front.{fits, putFront}
@@ -38,26 +38,26 @@ outcomeOf bytes room code number setting = outcomeOn (loadChannel bytes) (operat
 -- "Byte 0 is the output level after the operation. Then three numbers of two bytes each"
 abbrev pub answerBytes : Made → List ℕ
 answerBytes made =
-    flagByte (getOutputState (made .channel)) ∷ twoBytes (made .first) ++ twoBytes (made .second) ++ twoBytes (made .third)
+    flagNumber (getOutputState (made .channel)) ∷ twoBytes (made .first) ++ twoBytes (made .second) ++ twoBytes (made .third)
 
--- "Each returns 0 or .. a number of its own; then no lent byte changes."
+-- "Each returns 0 or .. a number of the table; with such a number no lent byte changes."
 abbrev pub status : Outcome → ℕ
 status (Refused n) = n
 status (Done made) = 0
 
-abbrev pub recordAfter : Outcome → List ℕ → List ℕ
-recordAfter (Refused n) bytes = bytes
-recordAfter (Done made) bytes = putFront (channelBytes (made .channel)) bytes
+-- a lent buffer after the call, where an operation that was made puts something of it at the front
+abbrev pub after : (Made → List ℕ) → Outcome → List ℕ → List ℕ
+after front (Refused n) bytes = bytes
+after front (Done made) bytes = putFront (front made) bytes
 
-abbrev pub answerAfter : Outcome → List ℕ → List ℕ
-answerAfter (Refused n) bytes = bytes
-answerAfter (Done made) bytes = putFront (answerBytes made) bytes
+abbrev pub recordBytes : Made → List ℕ
+recordBytes made = channelBytes (made .channel)
 
 -- what a call returns, and the record's and the answer's bytes after it, from those before it
-pub record Left (o : Outcome) (bytes answer : List ℕ) (returned : ℕ) (bytes-left answer-left : List ℕ) : Type 0 where
+pub record Settles (o : Outcome) (bytes answer : List ℕ) (returned : ℕ) (bytes-then answer-then : List ℕ) : Type 0 where
   pub number : returned ≡ status o
-  pub bytes-are : bytes-left ≡ recordAfter o bytes
-  pub answer-is : answer-left ≡ answerAfter o answer
+  pub bytes-are : bytes-then ≡ after recordBytes o bytes
+  pub answer-is : answer-then ≡ after answerBytes o answer
 
 -- "The first writes the fresh channel."
 abbrev pub freshStatus : List ℕ → ℕ

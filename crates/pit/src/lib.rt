@@ -8,7 +8,7 @@ ghost use mathlib.Core.Path.{_≡_};
 ghost use lib.ListN.{length};
 ghost use Rattle.encoding.specs.Front.{putFront};
 ghost use Rattle.encoding.specs.Stored.{channelBytes};
-ghost use Rattle.pit.specs.Outcome.{outcomeOf, answerBytes, Left, freshStatus, freshAfter};
+ghost use Rattle.pit.specs.Outcome.{outcomeOf, answerBytes, Settles, freshStatus, freshAfter};
 
 const SHORT_RECORD: u32 = 101;
 
@@ -84,7 +84,7 @@ pub extern "C" fn pit_channel_operation(
     number: u8,
     setting: u8,
 ) -> u32
-    ensures { λ r. ⌜ Left (outcomeOf (now (bytes .entry)) (length (now (answer .entry))) code number setting) (now (bytes .entry)) (now (answer .entry)) r (now (bytes .exit)) (now (answer .exit)) ⌝ }
+    ensures { λ r. ⌜ Settles (outcomeOf (now (bytes .entry)) (length (now (answer .entry))) code number setting) (now (bytes .entry)) (now (answer .entry)) r (now (bytes .exit)) (now (answer .exit)) ⌝ }
 {
     let room = answer.len();
     let outcome = outcome_of(bytes, room, code, number, setting);

@@ -13,9 +13,10 @@ use original::pit::record::Record;
 
 const CASES: usize = 3000;
 const CASE: usize = 68;
+const FROZEN: &str = concat!(env!("CARGO_MANIFEST_DIR"), "/../../crates/frozen/stdin");
 const SEED: u64 = 8254;
 
-/// Starts at which a decimal count borrows once, twice, three times, or from a digit above 9.
+/// Starts at which a decimal count borrows from one digit, two or three, or from a digit above 9, and some beside them.
 const BORROWS: &[u32] = &[0, 1, 0x10, 0x100, 0x1000, 0xA0, 0xA00, 0xA000, 0xF0, 0x9990, 0x9900, 0x9000, 0x9999, 0xFFFF];
 
 struct Sample {
@@ -59,23 +60,35 @@ fn sample() -> Vec<(Record, Operation)> {
     sample.cases
 }
 
-pub fn run(path: &str) -> Result<(), String> {
+/// The sample's bytes, with the original's answers.
+fn answered() -> Result<Vec<u8>, String> {
     let mut oracle = Oracle::default();
     let mut bytes = Vec::new();
-    let cases = sample();
-    for (record, op) in &cases {
-        let outcome = oracle.operation(record, *op);
+    for (record, op) in sample() {
+        let outcome = oracle.operation(&record, op);
         if let Some(fault) = outcome.fault {
             return Err(fault.to_string());
         }
-        bytes.extend_from_slice(record);
+        bytes.extend_from_slice(&record);
         bytes.extend_from_slice(&[op.code, op.number, op.setting]);
         bytes.extend_from_slice(&outcome.record);
         bytes.extend_from_slice(&outcome.answer);
     }
+    Ok(bytes)
+}
+
+pub fn run(path: &str) -> Result<(), String> {
+    let bytes = answered()?;
     std::fs::write(path, &bytes).map_err(|error| format!("{path}: {error}"))?;
-    println!("{} cases, {} bytes", cases.len(), bytes.len());
+    println!("{} cases, {} bytes", bytes.len() / CASE, bytes.len());
     Ok(())
+}
+
+/// Whether the frozen sample of the repository is what the original answers today.
+pub fn stands() -> Result<bool, String> {
+    let same = std::fs::read(FROZEN).map_err(|error| format!("crates/frozen/stdin: {error}"))? == answered()?;
+    println!("the frozen sample {} the original's answers", if same { "has" } else { "HAS NOT" });
+    Ok(same)
 }
 
 /// How many cases of a sample ours answers otherwise than it says.

@@ -60,6 +60,7 @@ fn compare(operations: u64, seed: u64) -> Result<bool, String> {
     random::run(&mut judge, operations, seed);
     refusals::run(&mut judge);
     judge.differ += differences::run(&mut judge.ours)?;
+    judge.differ += u64::from(!freeze::stands()?);
     for ((_, name), compared) in operations::NAMES.iter().zip(judge.compared) {
         println!("{name}: {compared}");
     }

@@ -89,12 +89,13 @@ fn unreadable_bytes(judge: &mut Judge) {
     }
 }
 
-/// Every code that is not in the table, and every number and setting that its code does not allow.
+/// Every code that is not in the table, with every number and the settings 0 and 1, and every number and setting that a code of the table does not
+/// allow.
 fn bad_operations(judge: &mut Judge) {
     let mut random = Random(4);
     for code in 0..=255 {
         let record = random.record();
-        let numbers: u32 = if place(code).is_some() { 0x1_0000 } else { 4 };
+        let numbers: u32 = if place(code).is_some() { 0x1_0000 } else { 0x200 };
         for pair in 0..numbers {
             let op = operation(code, pair as u8, (pair >> 8) as u8);
             if !allowed(op) {

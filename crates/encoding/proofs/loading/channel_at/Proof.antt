@@ -6,7 +6,7 @@ use Rattle.encoding.proofs.loading.channel_at.Tie as tie
 
 returns : tie.Need-returns
 unfolding channelAt
-returns c = simp (c .flag-of .ensures, c .before .before .pins-at .ensures, c .before .before .before .latch-at .ensures, c .before .before .before .before .counter-at .ensures, c .before .before .before .before .before .load-at .ensures, c .before .before .before .before .before .before .reloading-at .ensures, c .before .before .before .before .before .before .before .control-at .ensures)
+returns c = simp (c .flag-coded .ensures, c .before .before .pins-at .ensures, c .before .before .before .latch-at .ensures, c .before .before .before .before .counter-at .ensures, c .before .before .before .before .before .load-at .ensures, c .before .before .before .before .before .before .reloading-at .ensures, c .before .before .before .before .before .before .before .control-at .ensures)
 
 pub channel-at-spec : {M : Type 1} → statement M
 channel-at-spec =

@@ -4,7 +4,7 @@ use Rattle.encoding.proofs.loading.control_at.Statement.{statement}
 use Rattle.encoding.proofs.loading.control_at.Tie as tie
 
 returns : tie.Need-returns
-returns c = simp (c .flag-of .ensures, c .before .before .access-coded .ensures, c .before .before .before .before .numbered .ensures)
+returns c = simp (c .flag-coded .ensures, c .before .before .access-coded .ensures, c .before .before .before .before .numbered .ensures)
 
 pub control-at-spec : {M : Type 1} → statement M
 control-at-spec =

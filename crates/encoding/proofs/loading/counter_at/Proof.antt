@@ -4,7 +4,7 @@ use Rattle.encoding.proofs.loading.counter_at.Statement.{statement}
 use Rattle.encoding.proofs.loading.counter_at.Tie as tie
 
 returns : tie.Need-returns
-returns c = simp (c .flag-of .ensures, c .before .before .word3 .ensures, c .before .before .before .before .before .long .ensures, c .before .before .before .before .before .before .word2 .ensures, c .before .before .before .before .before .before .before .before .before .word .ensures, c .before .before .before .before .before .before .before .before .before .before .before .before .state-coded .ensures)
+returns c = simp (c .flag-coded .ensures, c .before .before .word3 .ensures, c .before .before .before .before .before .long .ensures, c .before .before .before .before .before .before .word2 .ensures, c .before .before .before .before .before .before .before .before .before .word .ensures, c .before .before .before .before .before .before .before .before .before .before .before .before .state-coded .ensures)
 
 pub counter-at-spec : {M : Type 1} → statement M
 counter-at-spec =

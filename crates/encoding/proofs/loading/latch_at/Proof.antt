@@ -4,7 +4,7 @@ use Rattle.encoding.proofs.loading.latch_at.Statement.{statement}
 use Rattle.encoding.proofs.loading.latch_at.Tie as tie
 
 returns : tie.Need-returns
-returns c = simp (c .flag-of .ensures, c .before .before .word .ensures, c .before .before .before .before .before .read-state-coded .ensures)
+returns c = simp (c .flag-coded .ensures, c .before .before .word .ensures, c .before .before .before .before .before .read-state-coded .ensures)
 
 pub latch-at-spec : {M : Type 1} → statement M
 latch-at-spec =

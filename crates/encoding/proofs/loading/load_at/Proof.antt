@@ -4,7 +4,7 @@ use Rattle.encoding.proofs.loading.load_at.Statement.{statement}
 use Rattle.encoding.proofs.loading.load_at.Tie as tie
 
 returns : tie.Need-returns
-returns c = simp (c .flag-of .ensures, c .before .before .word2 .ensures, c .before .before .before .before .before .word .ensures, c .before .before .before .before .before .before .before .before .load-type-coded .ensures, c .before .before .before .before .before .before .before .before .before .before .load-state-coded .ensures)
+returns c = simp (c .flag-coded .ensures, c .before .before .word2 .ensures, c .before .before .before .before .before .word .ensures, c .before .before .before .before .before .before .before .before .load-type-coded .ensures, c .before .before .before .before .before .before .before .before .before .before .load-state-coded .ensures)
 
 pub load-at-spec : {M : Type 1} → statement M
 load-at-spec =

@@ -4,7 +4,7 @@ use Rattle.encoding.proofs.loading.pins_at.Statement.{statement}
 use Rattle.encoding.proofs.loading.pins_at.Tie as tie
 
 returns : tie.Need-returns
-returns c = simp (c .flag-of2 .ensures, c .before .before .flag-of .ensures)
+returns c = simp (c .flag-coded2 .ensures, c .before .before .flag-coded .ensures)
 
 pub pins-at-spec : {M : Type 1} → statement M
 pins-at-spec =

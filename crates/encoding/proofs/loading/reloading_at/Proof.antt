@@ -4,7 +4,7 @@ use Rattle.encoding.proofs.loading.reloading_at.Statement.{statement}
 use Rattle.encoding.proofs.loading.reloading_at.Tie as tie
 
 returns : tie.Need-returns
-returns c = simp (c .word .ensures, c .before .before .before .flag-of2 .ensures, c .before .before .before .before .before .flag-of .ensures)
+returns c = simp (c .word .ensures, c .before .before .before .flag-coded2 .ensures, c .before .before .before .before .before .flag-coded .ensures)
 
 pub reloading-at-spec : {M : Type 1} → statement M
 reloading-at-spec =

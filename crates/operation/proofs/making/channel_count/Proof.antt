@@ -1,9 +1,11 @@
 -- `operation::making::channel_count` meets its contract. Assumes nothing.
 use borrow.Author.Needs.{needs}
+use Rattle.operation.specs.Made.{operate}
 use Rattle.operation.proofs.making.channel_count.Statement.{statement}
 use Rattle.operation.proofs.making.channel_count.Tie as tie
 
 returns : tie.Need-returns
+unfolding operate
 returns c = simp (c .answered .ensures, c .before .as-number .ensures, c .before .before .get-channel-count .ensures)
 
 pub channel-count-spec : {M : Type 1} → statement M

@@ -1,11 +1,11 @@
 -- `operation::making::read` meets its contract. Assumes nothing.
 use borrow.Author.Needs.{needs}
-use Rattle.latch.specs.Reading.{readByte}
+use Rattle.operation.specs.Made.{operate}
 use Rattle.operation.proofs.making.read.Statement.{statement}
 use Rattle.operation.proofs.making.read.Tie as tie
 
 returns : tie.Need-returns
-unfolding readByte
+unfolding operate
 returns c = simp (c .answered .ensures, c .before .before .before .read-byte .ensures)
 
 pub read-spec : {M : Type 1} → statement M

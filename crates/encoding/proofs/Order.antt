@@ -1,0 +1,13 @@
+-- The order of the four bytes of cycles in state, which no operation shows: each keeps the number or makes it 0. Assumes nothing.
+use Prim.Native.Nat.{ℕ}
+use mathlib.Core.Path.{_≡_, refl}
+use mathlib.Core.List.{List, [], _∷_, _++_}
+use lib.ListN.{replicate}
+use Rattle.encoding.specs.Stored.{fourBytes}
+use Rattle.encoding.specs.Loaded.{counterAt}
+
+stored : fourBytes 0x04030201 ≡ 1 ∷ 2 ∷ 3 ∷ 4 ∷ []
+stored = refl
+
+loaded : counterAt (replicate 15 0 ++ 1 ∷ 2 ∷ 3 ∷ 4 ∷ []) .«cycles_in_state» ≡ 0x04030201
+loaded = refl

@@ -1,0 +1,6 @@
+-- A flag as a number.
+use Prim.Native.Nat.{ℕ}
+use mathlib.Core.Bool.{Bool, cond}
+
+abbrev pub flagNumber : Bool → ℕ
+flagNumber flag = cond flag 1 0
