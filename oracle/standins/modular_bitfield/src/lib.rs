@@ -24,22 +24,20 @@ impl Specifier for bool {
     }
 }
 
-pub enum B2 {}
+/// A number of so many bits.
+macro_rules! number {
+    ($name:ident, $bits:literal) => {
+        pub enum $name {}
 
-impl Specifier for B2 {
-    const BITS: u32 = 2;
-    type InOut = u8;
-    fn from_bits(bits: u8) -> u8 {
-        bits
-    }
+        impl Specifier for $name {
+            const BITS: u32 = $bits;
+            type InOut = u8;
+            fn from_bits(bits: u8) -> u8 {
+                bits
+            }
+        }
+    };
 }
 
-pub enum B3 {}
-
-impl Specifier for B3 {
-    const BITS: u32 = 3;
-    type InOut = u8;
-    fn from_bits(bits: u8) -> u8 {
-        bits
-    }
-}
+number!(B2, 2);
+number!(B3, 3);
