@@ -7,6 +7,8 @@ use std::{env, fs};
 fn main() {
     println!("cargo:rustc-check-cfg=cfg(linked)");
     println!("cargo:rerun-if-env-changed=PIT_LIB_DIR");
+    // The archive's checksum: cargo itself goes by the time of the file, and an older archive can take the place of a newer one.
+    println!("cargo:rerun-if-env-changed=PIT_LIB_SUM");
     let root = PathBuf::from(env::var("CARGO_MANIFEST_DIR").unwrap()).join("../..");
     let folder = root.join(env::var("PIT_LIB_DIR").unwrap_or_else(|_| "target/staticlib".to_string()));
     println!("cargo:rerun-if-changed={}", folder.join("libpit.a").display());

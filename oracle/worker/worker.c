@@ -8,7 +8,7 @@ typedef __UINTPTR_TYPE__ uintptr_t;
 typedef __UINT32_TYPE__ uint32_t;
 typedef __UINT8_TYPE__ uint8_t;
 
-enum { FRAME = 48, RECORD = 8, ANSWER = 39 };
+enum { FRAME = 80, RECORD = 8, ANSWER = 56 };
 
 uint32_t pit_channel_fresh(uint8_t *record, size_t record_len);
 uint32_t pit_channel_operation(uint8_t *record, size_t record_len, uint8_t *answer, size_t answer_len,
@@ -72,7 +72,7 @@ static void write_all(const uint8_t *bytes, size_t n)
     }
 }
 
-static uint8_t frames[1024 * FRAME];
+static uint8_t frames[512 * FRAME];
 
 void worker(void)
 {

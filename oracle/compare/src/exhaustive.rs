@@ -49,7 +49,7 @@ fn counts(judge: &mut Judge) {
     );
 }
 
-/// Every byte in every access, at every place of a load, in every mode and state.
+/// Every byte in every access, at every place of a load, in every mode and state; and every high byte after every low one.
 fn writes(judge: &mut Judge) {
     let chosen: &[(&Field, &[u32])] = &[
         (ACCESS, ACCESSES),
@@ -65,6 +65,12 @@ fn writes(judge: &mut Judge) {
             judge.ask(record, operation(1, byte, 0));
             judge.ask(record, operation(1, byte, 1));
         }
+    });
+    let registers: Vec<u32> = (0..=255).map(|low| 0x5A00 + low).collect();
+    each_combination(&telling(), &[(ACCESS, &[2]), (LOAD_STATE, &[1]), (REGISTER, &registers)], &mut |record| {
+        (0..=255).for_each(|byte| {
+            judge.ask(record, operation(1, byte, 0));
+        });
     });
     let flags: &[(&Field, &[u32])] = &[(ARMED, FLAG), (DIRTY, FLAG), (LATCHED, FLAG), (READ_STATE, FLAG), (GATE, FLAG), (TICKED, FLAG)];
     each_combination(&telling(), &[&chosen[..4], flags].concat(), &mut |record| {

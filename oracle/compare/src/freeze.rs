@@ -101,8 +101,8 @@ pub fn replay(path: &str) -> Result<u64, String> {
     let mut differ = 0;
     for case in bytes.chunks(CASE) {
         let start: Record = case[..29].try_into().expect("29 bytes");
-        let reply = ours.call(Frame::operation(&start, operation(case[29], case[30], case[31])));
-        if reply.status() != 0 || reply.record() != case[32..61] || reply.answer() != case[61..] {
+        let reply = ours.call(Frame::operation(&start, operation(case[29], case[30], case[31])).lending(29, 7));
+        if reply.status() != 0 || reply.record() != case[32..61] || reply.answer() != case[61..] || !reply.rest_untouched() {
             differ += 1;
         }
     }

@@ -26,6 +26,8 @@ pub struct Judge {
     pub refused: u64,
     pub fresh: u64,
     pub differ: u64,
+    /// Differences other than of an operation that both sides make.
+    said: u64,
     /// Differences seen, by the operation's place in the table.
     seen: [u64; operations::NAMES.len()],
 }
@@ -34,7 +36,7 @@ impl Judge {
     pub fn new(ours: Ours) -> Self {
         let (waiting, frames) = (Vec::with_capacity(MOST), Vec::with_capacity(MOST));
         let compared = [0; operations::NAMES.len()];
-        Self { oracle: Oracle::default(), ours, waiting, frames, compared, refused: 0, fresh: 0, differ: 0, seen: compared }
+        Self { oracle: Oracle::default(), ours, waiting, frames, compared, refused: 0, fresh: 0, differ: 0, said: 0, seen: compared }
     }
 
     pub fn total(&self) -> u64 {
@@ -109,7 +111,8 @@ impl Judge {
     /// Counts something of ours that is not as it should be, and says it while there are few.
     pub fn wrong(&mut self, what: &str) {
         self.differ += 1;
-        if self.differ <= 10 {
+        self.said += 1;
+        if self.said <= 10 {
             println!("difference: {what}");
         }
     }

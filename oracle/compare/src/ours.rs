@@ -1,8 +1,8 @@
 //! Our timer behind its two C functions: linked into this program, or in a worker process where the archive is for another processor.
 //!
-//! A call is a frame of 48 bytes, which becomes the reply. Its head has eight bytes: the function (0 fresh, 1 operation), the lengths of record and
-//! answer, the operation's three numbers, two bytes unused; in the reply its first four are the status. Then come 31 bytes of which the
-//! record is the first, and 9 of which the answer is.
+//! A call is a frame of 80 bytes, which becomes the reply. Its head has eight bytes: the function (0 fresh, 1 operation), the lengths lent for record and
+//! answer, the operation's three numbers, the filler, one byte unused; in the reply its first four are the status. Then come 48 bytes of which the
+//! record is the first, and 24 of which the answer is. All other bytes hold the filler, which is another in each frame.
 
 use original::pit::operation::Operation;
 use original::pit::record::Record;
@@ -10,13 +10,18 @@ use std::io::{Read, Write};
 use std::process::{Child, ChildStdin, ChildStdout, Command, Stdio};
 
 /// Frames sent at a time: few enough that neither side of a pipe ever waits for the other to read.
-pub const MOST: usize = 1024;
+pub const MOST: usize = 512;
 
-/// Stands in the lent bytes that no operation may write.
-const FILLER: u8 = 0xA5;
+const FRAME: usize = 80;
+const RECORD: usize = 8;
+const ANSWER: usize = 56;
+
+/// The bytes that can be lent for a record and for an answer.
+pub const RECORD_ROOM: u8 = 48;
+pub const ANSWER_ROOM: u8 = 24;
 
 #[derive(Clone, Copy, PartialEq)]
-pub struct Frame([u8; 48]);
+pub struct Frame([u8; FRAME]);
 
 impl Frame {
     pub fn fresh(record: &Record, record_len: u8) -> Self {
@@ -25,11 +30,14 @@ impl Frame {
         frame
     }
 
-    /// An operation with all bytes lent: two past the record, and two past the answer.
+    /// An operation with as many bytes lent as are needed, or some more. How many, and the filler, go by the record, so that they vary.
     pub fn operation(record: &Record, op: Operation) -> Self {
-        let mut bytes = [FILLER; 48];
-        bytes[..6].copy_from_slice(&[1, 31, 9, op.code, op.number, op.setting]);
-        bytes[8..37].copy_from_slice(record);
+        let sum = record.iter().fold(u32::from(op.code), |sum, byte| sum.wrapping_mul(31).wrapping_add(u32::from(*byte)));
+        let filler = (sum >> 8) as u8;
+        let mut bytes = [filler; FRAME];
+        let lent = [29 + (sum % 20) as u8, 7 + (sum / 20 % 18) as u8];
+        bytes[..7].copy_from_slice(&[1, lent[0], lent[1], op.code, op.number, op.setting, filler]);
+        bytes[RECORD..RECORD + 29].copy_from_slice(record);
         Frame(bytes)
     }
 
@@ -44,19 +52,20 @@ impl Frame {
 
     /// All bytes that were lent, and those past them.
     pub fn lent(&self) -> &[u8] {
-        &self.0[8..]
+        &self.0[RECORD..]
     }
 
     pub fn record(&self) -> Record {
-        self.0[8..37].try_into().expect("29 bytes")
+        self.0[RECORD..RECORD + 29].try_into().expect("29 bytes")
     }
 
     pub fn answer(&self) -> [u8; 7] {
-        self.0[39..46].try_into().expect("7 bytes")
+        self.0[ANSWER..ANSWER + 7].try_into().expect("7 bytes")
     }
 
     pub fn rest_untouched(&self) -> bool {
-        [self.0[37], self.0[38], self.0[46], self.0[47]] == [FILLER; 4]
+        let filler = self.0[6];
+        self.0[RECORD + 29..ANSWER].iter().chain(&self.0[ANSWER + 7..]).all(|byte| *byte == filler)
     }
 }
 
@@ -94,7 +103,7 @@ impl Ours {
                     let mut bytes: Vec<u8> = part.iter().flat_map(|frame| frame.0).collect();
                     to.write_all(&bytes).and_then(|()| to.flush()).expect("the worker takes the calls");
                     from.read_exact(&mut bytes).expect("the worker answers the calls");
-                    for (frame, reply) in part.iter_mut().zip(bytes.chunks(48)) {
+                    for (frame, reply) in part.iter_mut().zip(bytes.chunks(FRAME)) {
                         frame.0.copy_from_slice(reply);
                     }
                 }
@@ -127,8 +136,8 @@ mod linked {
     }
 
     pub fn serve(frame: &mut Frame) {
-        let (head, lent) = frame.0.split_at_mut(8);
-        let (record, answer) = lent.split_at_mut(31);
+        let (head, lent) = frame.0.split_at_mut(super::RECORD);
+        let (record, answer) = lent.split_at_mut(super::ANSWER - super::RECORD);
         let record = &mut record[..usize::from(head[1])];
         let answer = &mut answer[..usize::from(head[2])];
         // SAFETY: each pointer goes with the length of the slice that it comes from, and the two slices are apart.

@@ -4,9 +4,9 @@
 use crate::fields::FIELDS;
 use crate::judge::Judge;
 use crate::operations::{allowed, operation, place, show, NAMES};
-use crate::ours::Frame;
+use crate::ours::{Frame, ANSWER_ROOM, RECORD_ROOM};
 use crate::random::Random;
-use original::pit::operation::{fresh, Operation};
+use original::pit::operation::fresh;
 use original::pit::record::Record;
 
 const SHORT_RECORD: u32 = 101;
@@ -35,7 +35,7 @@ fn refused(judge: &mut Judge, frame: Frame, status: u32, what: &str) {
 /// Over records of any bytes, readable or not, and every length.
 fn fresh_channels(judge: &mut Judge) {
     let mut random = Random(1);
-    for len in 0..=31 {
+    for len in 0..=RECORD_ROOM {
         let record: Record = std::array::from_fn(|_| random.next() as u8);
         let frame = Frame::fresh(&record, len);
         if len < 29 {
@@ -50,14 +50,15 @@ fn fresh_channels(judge: &mut Judge) {
     }
 }
 
-/// Every length of record and answer, with every operation. Long enough, the outcome is the same as with all bytes lent.
+/// Every length of record and answer, with every operation, on a record of its own. Long enough, the outcome is the same as with all bytes lent.
 fn lengths(judge: &mut Judge) {
     let mut random = Random(2);
     for (code, _) in NAMES {
-        let (record, op) = (random.record(), operation(code, 0, 0));
-        let frame = Frame::operation(&record, op);
-        let whole = judge.ours.call(frame);
-        for (record_len, answer_len) in (0..=31).flat_map(|r| (0..=9).map(move |a| (r, a))) {
+        let op = operation(code, 0, 0);
+        for (record_len, answer_len) in (0..=RECORD_ROOM).flat_map(|r| (0..=ANSWER_ROOM).map(move |a| (r, a))) {
+            let record = random.record();
+            let frame = Frame::operation(&record, op);
+            let whole = judge.ours.call(frame.lending(RECORD_ROOM, ANSWER_ROOM));
             let lending = frame.lending(record_len, answer_len);
             let what = format!("{}, {record_len} bytes of record, {answer_len} of answer", show(op));
             match (record_len < 29, answer_len < 7) {
@@ -66,7 +67,7 @@ fn lengths(judge: &mut Judge) {
                 (false, false) => {
                     let reply = judge.ours.call(lending);
                     judge.ask(&record, op);
-                    if reply != whole {
+                    if reply.status() != 0 || reply.lent() != whole.lent() {
                         judge.wrong(&format!("{what}: not as with all bytes lent"));
                     }
                 }
@@ -89,32 +90,50 @@ fn unreadable_bytes(judge: &mut Judge) {
     }
 }
 
-/// Every code that is not in the table, with every number and the settings 0 and 1, and every number and setting that a code of the table does not
-/// allow.
+/// Every number and setting that a code of the table does not allow, and every other code with every number and some settings; each on a record of
+/// its own.
 fn bad_operations(judge: &mut Judge) {
     let mut random = Random(4);
     for code in 0..=255 {
-        let record = random.record();
-        let numbers: u32 = if place(code).is_some() { 0x1_0000 } else { 0x200 };
-        for pair in 0..numbers {
-            let op = operation(code, pair as u8, (pair >> 8) as u8);
+        let settings: Vec<u8> = match place(code) {
+            Some(_) => (0..=255).collect(),
+            None => vec![0, 1, random.next() as u8],
+        };
+        for (setting, number) in settings.iter().flat_map(|setting| (0..=255).map(move |number| (*setting, number))) {
+            let op = operation(code, number, setting);
             if !allowed(op) {
-                refused(judge, Frame::operation(&record, op), BAD_OPERATION, &show(op));
+                refused(judge, Frame::operation(&random.record(), op), BAD_OPERATION, &show(op));
             }
         }
     }
 }
 
-/// Of several reasons to refuse, the first in the table is given.
+/// Of several reasons to refuse, the first in the table is given: with every code, and an unreadable byte at any place.
 fn order(judge: &mut Judge) {
-    let good: Operation = operation(4, 0, 0);
-    for reasons in 1..16u32 {
-        let has = |bit: u32| reasons & bit != 0;
-        let mut record = fresh();
-        record[0] = if has(2) { 6 } else { 0 };
-        let op = if has(4) { operation(4, 1, 0) } else { good };
-        let frame = Frame::operation(&record, op).lending(if has(1) { 28 } else { 29 }, if has(8) { 6 } else { 7 });
-        let status = [SHORT_RECORD, UNREADABLE, BAD_OPERATION, SHORT_ANSWER][reasons.trailing_zeros() as usize];
-        refused(judge, frame, status, &format!("reasons {reasons:04b}"));
+    let mut random = Random(5);
+    let limited: Vec<_> = FIELDS.iter().filter(|field| field.width == 1).collect();
+    for (code, reasons) in (0..=255).flat_map(|code| (1..16u32).map(move |reasons| (code, reasons))) {
+        let mut op = operation(code, 0, 0);
+        if allowed(op) && reasons & 4 != 0 {
+            op.setting = 2;
+        }
+        let mut record = random.record();
+        if reasons & 2 != 0 {
+            let field = limited[random.below(limited.len() as u64) as usize];
+            field.put(&mut record, 255 - random.below(u64::from(255 - field.limit)) as u32);
+        }
+        let (record_len, answer_len) = (random.below(29) as u8, random.below(7) as u8);
+        let lent = (if reasons & 1 != 0 { record_len } else { 29 }, if reasons & 8 != 0 { answer_len } else { 7 });
+        let frame = Frame::operation(&record, op).lending(lent.0, lent.1);
+        if let Some(status) = due(reasons, allowed(op)) {
+            refused(judge, frame, status, &format!("{}, reasons {reasons:04b}", show(op)));
+        }
     }
+}
+
+/// The status of the first reason that holds, if any does.
+fn due(reasons: u32, known: bool) -> Option<u32> {
+    let holds = [reasons & 1 != 0, reasons & 2 != 0, !known, reasons & 8 != 0];
+    let first = holds.iter().position(|reason| *reason)?;
+    Some([SHORT_RECORD, UNREADABLE, BAD_OPERATION, SHORT_ANSWER][first])
 }
