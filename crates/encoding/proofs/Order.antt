@@ -1,7 +1,6 @@
 -- The order of the four bytes of cycles in state, which no operation shows: each keeps the number or makes it 0. Assumes nothing.
-use Prim.Native.Nat.{ℕ}
 use mathlib.Core.Path.{_≡_, refl}
-use mathlib.Core.List.{List, [], _∷_, _++_}
+use mathlib.Core.List.{[], _∷_, _++_}
 use lib.ListN.{replicate}
 use Rattle.encoding.specs.Stored.{fourBytes}
 use Rattle.encoding.specs.Loaded.{counterAt}

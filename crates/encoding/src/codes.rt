@@ -16,13 +16,13 @@ pub fn flag_byte(flag: bool) -> u8
     if flag { 1 } else { 0 }
 }
 
-pub fn flag_coded(byte: u8) -> bool
+pub(crate) fn flag_coded(byte: u8) -> bool
     ensures { λ r. ⌜ r ≡ flagCoded byte ⌝ }
 {
     byte == 1
 }
 
-pub fn access_byte(access: RwMode) -> u8
+pub(crate) fn access_byte(access: RwMode) -> u8
     ensures { λ r. ⌜ r ≡ accessByte access ⌝ }
 {
     match access {
@@ -32,7 +32,7 @@ pub fn access_byte(access: RwMode) -> u8
     }
 }
 
-pub fn access_coded(byte: u8) -> RwMode
+pub(crate) fn access_coded(byte: u8) -> RwMode
     ensures { λ r. ⌜ r ≡ accessCoded byte ⌝ }
 {
     if byte == 0 {
@@ -44,7 +44,7 @@ pub fn access_coded(byte: u8) -> RwMode
     RwMode::LsbMsb
 }
 
-pub fn load_state_byte(state: LoadState) -> u8
+pub(crate) fn load_state_byte(state: LoadState) -> u8
     ensures { λ r. ⌜ r ≡ loadStateByte state ⌝ }
 {
     match state {
@@ -53,7 +53,7 @@ pub fn load_state_byte(state: LoadState) -> u8
     }
 }
 
-pub fn load_state_coded(byte: u8) -> LoadState
+pub(crate) fn load_state_coded(byte: u8) -> LoadState
     ensures { λ r. ⌜ r ≡ loadStateCoded byte ⌝ }
 {
     if byte == 0 {
@@ -62,7 +62,7 @@ pub fn load_state_coded(byte: u8) -> LoadState
     LoadState::WaitingForMsb
 }
 
-pub fn load_type_byte(load_type: LoadType) -> u8
+pub(crate) fn load_type_byte(load_type: LoadType) -> u8
     ensures { λ r. ⌜ r ≡ loadTypeByte «load_type» ⌝ }
 {
     match load_type {
@@ -71,7 +71,7 @@ pub fn load_type_byte(load_type: LoadType) -> u8
     }
 }
 
-pub fn load_type_coded(byte: u8) -> LoadType
+pub(crate) fn load_type_coded(byte: u8) -> LoadType
     ensures { λ r. ⌜ r ≡ loadTypeCoded byte ⌝ }
 {
     if byte == 0 {
@@ -80,7 +80,7 @@ pub fn load_type_coded(byte: u8) -> LoadType
     LoadType::SubsequentLoad
 }
 
-pub fn read_state_byte(state: ReadState) -> u8
+pub(crate) fn read_state_byte(state: ReadState) -> u8
     ensures { λ r. ⌜ r ≡ readStateByte state ⌝ }
 {
     match state {
@@ -89,7 +89,7 @@ pub fn read_state_byte(state: ReadState) -> u8
     }
 }
 
-pub fn read_state_coded(byte: u8) -> ReadState
+pub(crate) fn read_state_coded(byte: u8) -> ReadState
     ensures { λ r. ⌜ r ≡ readStateCoded byte ⌝ }
 {
     if byte == 0 {
@@ -107,7 +107,7 @@ fn counting_byte(flag: ReloadFlag) -> u8
     }
 }
 
-pub fn state_byte(state: ChannelState) -> u8
+pub(crate) fn state_byte(state: ChannelState) -> u8
     ensures { λ r. ⌜ r ≡ stateByte state ⌝ }
 {
     match state {
@@ -130,7 +130,7 @@ fn counting_coded(byte: u8) -> ChannelState
     ChannelState::Counting(ReloadFlag::ReloadNextCycle)
 }
 
-pub fn state_coded(byte: u8) -> ChannelState
+pub(crate) fn state_coded(byte: u8) -> ChannelState
     ensures { λ r. ⌜ r ≡ stateCoded byte ⌝ }
 {
     match byte {

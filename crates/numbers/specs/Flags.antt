@@ -1,4 +1,4 @@
--- A flag as a number.
+-- A flag as a number: 0 no, 1 yes.
 use Prim.Native.Nat.{ℕ}
 use mathlib.Core.Bool.{Bool, cond}
 

@@ -3,7 +3,6 @@ use Prim.Native.Nat.{ℕ}
 use mathlib.Core.Bool.{cond}
 use lib.Dec.{eqb, ltb}
 use Rattle.channel.specs.declared.PitType.the-variants.{Model8253, Model8254}
-use Rattle.operation.specs.declared.Operation.{Operation}
 use Rattle.operation.specs.declared.Operation.the-variants.{WriteByte, ReadByte, SetGate, Count, LoadCycle, Reset, ControlByte, GetOutputState, GetChannelCount, DoesChannelRetrigger, IsDirty}
 use Rattle.operation.specs.declared.asked.Asked.{Asked}
 use Rattle.operation.specs.declared.asked.Asked.the-variants.{Known, Unknown}

@@ -7,8 +7,7 @@ use operation::making::Made;
 ghost use mathlib.Core.Path.{_≡_};
 ghost use lib.ListN.{length};
 ghost use Rattle.encoding.specs.Front.{putFront};
-ghost use Rattle.encoding.specs.Stored.{channelBytes};
-ghost use Rattle.pit.specs.Outcome.{outcomeOf, answerBytes, Settles, freshStatus, freshAfter};
+ghost use Rattle.pit.specs.Outcome.{outcomeOf, answerBytes, recordBytes, Settles, freshStatus, freshAfter};
 
 const SHORT_RECORD: u32 = 101;
 
@@ -67,7 +66,7 @@ fn answer_bytes(made: Made) -> [u8; 7]
 }
 
 fn write_back(bytes: &mut [u8], answer: &mut [u8], made: Made)
-    ensures { λ _. ⌜ (now (bytes .exit) ≡ putFront (channelBytes (made .channel)) (now (bytes .entry))) × (now (answer .exit) ≡ putFront (answerBytes made) (now (answer .entry))) ⌝ }
+    ensures { λ _. ⌜ (now (bytes .exit) ≡ putFront (recordBytes made) (now (bytes .entry))) × (now (answer .exit) ≡ putFront (answerBytes made) (now (answer .entry))) ⌝ }
 {
     let c = made.channel;
     let next = encoding::channel_bytes(c);

@@ -1,7 +1,6 @@
 -- `pit::pit_channel_operation` meets its contract. Assumes nothing.
 use mathlib.Core.Path.{sym, _∙_}
 use borrow.Author.Needs.{needs}
-use Rattle.pit.specs.Outcome.{outcomeOf}
 use Rattle.pit.proofs.pit_channel_operation.Statement.{statement}
 use Rattle.pit.proofs.pit_channel_operation.Tie as tie
 

@@ -2,7 +2,6 @@
 use mathlib.Core.Path.{ap, _∙_}
 use denote.Ref.{now}
 use borrow.Author.Needs.{needs}
-use Rattle.encoding.specs.Stored.{channelBytes}
 use Rattle.encoding.specs.Front.{putFront}
 use Rattle.pit.proofs.write_back.Statement.{statement}
 use Rattle.pit.proofs.write_back.Tie as tie

@@ -13,8 +13,8 @@ pub fn load(record: &Record, c: usize, ptype: PitType) -> Channel {
     Channel {
         c,
         ptype,
-        mode: Updatable::new(mode(record[0])),
-        rw_mode: Updatable::new(access(record[1])),
+        mode: Updatable::new(value(MODES, record[0])),
+        rw_mode: Updatable::new(value(ACCESSES, record[1])),
         bcd_mode: flag(2),
         output_on_reload: flag(3),
         reload_on_trigger: flag(4),
@@ -24,7 +24,7 @@ pub fn load(record: &Record, c: usize, ptype: PitType) -> Channel {
         load_state: if flag(11) { LoadState::WaitingForMsb } else { LoadState::WaitingForLsb },
         load_type: if flag(12) { LoadType::SubsequentLoad } else { LoadType::InitialLoad },
         armed: flag(13),
-        channel_state: state(record[14]),
+        channel_state: value(STATES, record[14]),
         cycles_in_state: u32::from_le_bytes([record[15], record[16], record[17], record[18]]),
         counting_element: Updatable::new(number(19)),
         ticked: flag(21),
@@ -43,8 +43,8 @@ pub fn load(record: &Record, c: usize, ptype: PitType) -> Channel {
 
 pub fn dump(channel: &Channel) -> Record {
     let mut record = [0; 29];
-    record[0] = mode_number(&channel.mode);
-    record[1] = access_number(&channel.rw_mode);
+    record[0] = number_of(MODES, &channel.mode);
+    record[1] = number_of(ACCESSES, &channel.rw_mode);
     record[2] = channel.bcd_mode.into();
     record[3] = channel.output_on_reload.into();
     record[4] = channel.reload_on_trigger.into();
@@ -54,7 +54,7 @@ pub fn dump(channel: &Channel) -> Record {
     record[11] = (channel.load_state == LoadState::WaitingForMsb).into();
     record[12] = (channel.load_type == LoadType::SubsequentLoad).into();
     record[13] = channel.armed.into();
-    record[14] = state_number(&channel.channel_state);
+    record[14] = number_of(STATES, &channel.channel_state);
     record[15..19].copy_from_slice(&channel.cycles_in_state.to_le_bytes());
     record[19..21].copy_from_slice(&channel.counting_element.to_le_bytes());
     record[21] = channel.ticked.into();
@@ -67,67 +67,31 @@ pub fn dump(channel: &Channel) -> Record {
     record
 }
 
-fn mode(number: u8) -> ChannelMode {
-    match number {
-        0 => ChannelMode::InterruptOnTerminalCount,
-        1 => ChannelMode::HardwareRetriggerableOneShot,
-        2 => ChannelMode::RateGenerator,
-        3 => ChannelMode::SquareWaveGenerator,
-        4 => ChannelMode::SoftwareTriggeredStrobe,
-        5 => ChannelMode::HardwareTriggeredStrobe,
-        _ => panic!("not a mode: {number}"),
-    }
+/// The values of each enum in the order of their numbers.
+const MODES: [ChannelMode; 6] = [
+    ChannelMode::InterruptOnTerminalCount,
+    ChannelMode::HardwareRetriggerableOneShot,
+    ChannelMode::RateGenerator,
+    ChannelMode::SquareWaveGenerator,
+    ChannelMode::SoftwareTriggeredStrobe,
+    ChannelMode::HardwareTriggeredStrobe,
+];
+const ACCESSES: [RwMode; 3] = [RwMode::Lsb, RwMode::Msb, RwMode::LsbMsb];
+const STATES: [ChannelState; 7] = [
+    ChannelState::WaitingForReload,
+    ChannelState::WaitingForGate,
+    ChannelState::DeferLoadCycle,
+    ChannelState::WaitingForLoadCycle,
+    ChannelState::WaitingForLoadTrigger,
+    ChannelState::Counting(ReloadFlag::Normal),
+    ChannelState::Counting(ReloadFlag::ReloadNextCycle),
+];
+
+/// The value with a number. The original's enums are not `Copy`, so the table is taken apart.
+fn value<T, const N: usize>(table: [T; N], number: u8) -> T {
+    table.into_iter().nth(number.into()).expect("a number of the table")
 }
 
-fn mode_number(mode: &ChannelMode) -> u8 {
-    match mode {
-        ChannelMode::InterruptOnTerminalCount => 0,
-        ChannelMode::HardwareRetriggerableOneShot => 1,
-        ChannelMode::RateGenerator => 2,
-        ChannelMode::SquareWaveGenerator => 3,
-        ChannelMode::SoftwareTriggeredStrobe => 4,
-        ChannelMode::HardwareTriggeredStrobe => 5,
-    }
-}
-
-fn access(number: u8) -> RwMode {
-    match number {
-        0 => RwMode::Lsb,
-        1 => RwMode::Msb,
-        2 => RwMode::LsbMsb,
-        _ => panic!("not an access: {number}"),
-    }
-}
-
-fn access_number(access: &RwMode) -> u8 {
-    match access {
-        RwMode::Lsb => 0,
-        RwMode::Msb => 1,
-        RwMode::LsbMsb => 2,
-    }
-}
-
-fn state(number: u8) -> ChannelState {
-    match number {
-        0 => ChannelState::WaitingForReload,
-        1 => ChannelState::WaitingForGate,
-        2 => ChannelState::DeferLoadCycle,
-        3 => ChannelState::WaitingForLoadCycle,
-        4 => ChannelState::WaitingForLoadTrigger,
-        5 => ChannelState::Counting(ReloadFlag::Normal),
-        6 => ChannelState::Counting(ReloadFlag::ReloadNextCycle),
-        _ => panic!("not a state: {number}"),
-    }
-}
-
-fn state_number(state: &ChannelState) -> u8 {
-    match state {
-        ChannelState::WaitingForReload => 0,
-        ChannelState::WaitingForGate => 1,
-        ChannelState::DeferLoadCycle => 2,
-        ChannelState::WaitingForLoadCycle => 3,
-        ChannelState::WaitingForLoadTrigger => 4,
-        ChannelState::Counting(ReloadFlag::Normal) => 5,
-        ChannelState::Counting(ReloadFlag::ReloadNextCycle) => 6,
-    }
+fn number_of<T: PartialEq, const N: usize>(table: [T; N], value: &T) -> u8 {
+    table.iter().position(|known| known == value).expect("every value is in the table") as u8
 }

@@ -1,6 +1,5 @@
 -- `encoding::codes::load_type_coded` meets its contract. Assumes nothing.
 use borrow.Author.Tests.{eq-eqb, ne-eqb}
-use borrow.Author.Needs.{needs}
 use Rattle.encoding.proofs.codes.load_type_coded.Statement.{statement}
 use Rattle.encoding.proofs.codes.load_type_coded.Tie as tie
 

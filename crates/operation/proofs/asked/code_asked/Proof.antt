@@ -1,6 +1,5 @@
 -- `operation::asked::code_asked` meets its contract. Assumes nothing.
 use borrow.Author.Tests.{eq-eqb, ne-eqb}
-use borrow.Author.Needs.{needs}
 use Rattle.operation.specs.Asked.{codeAsked}
 use Rattle.operation.proofs.asked.code_asked.Statement.{statement}
 use Rattle.operation.proofs.asked.code_asked.Tie as tie

@@ -1,6 +1,5 @@
 -- `operation::asked::control_asked` meets its contract. Assumes nothing.
 use borrow.Author.Tests.{eq-eqb, ne-eqb}
-use borrow.Author.Needs.{needs}
 use Rattle.operation.specs.Asked.{controlAsked}
 use Rattle.operation.proofs.asked.control_asked.Statement.{statement}
 use Rattle.operation.proofs.asked.control_asked.Tie as tie

@@ -1,6 +1,5 @@
 -- `operation::asked::gate_asked` meets its contract. Assumes nothing.
 use borrow.Author.Tests.{eq-eqb, ne-eqb, lt-ltb, le-ltb}
-use borrow.Author.Needs.{needs}
 use Rattle.operation.specs.Asked.{gateAsked}
 use Rattle.operation.proofs.asked.gate_asked.Statement.{statement}
 use Rattle.operation.proofs.asked.gate_asked.Tie as tie

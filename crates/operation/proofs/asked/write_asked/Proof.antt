@@ -1,6 +1,5 @@
 -- `operation::asked::write_asked` meets its contract. Assumes nothing.
 use borrow.Author.Tests.{lt-ltb, le-ltb}
-use borrow.Author.Needs.{needs}
 use Rattle.operation.specs.Asked.{writeAsked}
 use Rattle.operation.proofs.asked.write_asked.Statement.{statement}
 use Rattle.operation.proofs.asked.write_asked.Tie as tie
