@@ -4,3 +4,4 @@ pub mod Shared
 pub mod Fresh
 pub mod Queries
 pub mod Kept
+pub mod Blank

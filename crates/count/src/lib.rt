@@ -1,7 +1,8 @@
-// One count: the counting element goes down by one in its radix.
+// Counts: the counting element goes down by one in its radix, once or a number of times.
 use channel::Channel;
 ghost use mathlib.Core.Path.{_≡_};
 ghost use Rattle.count.specs.Step.{decimalStep, stepIn};
+ghost use Rattle.numbers.specs.Times.{times};
 ghost use Rattle.count.specs.Count.{count};
 
 // The decimal step borrows from the lowest digit that is not 0.
@@ -43,5 +44,18 @@ pub fn count(c: Channel) -> Channel
     let element = step_in(w.bcd_mode, k.counting_element);
     let mut next = c.put_element(element);
     next.counter.ticked = true;
+    next
+}
+
+// That many single counts.
+pub fn counts(c: Channel, number: u32) -> Channel
+    ensures { λ r. ⌜ r ≡ times number count c ⌝ }
+{
+    let mut next = c;
+    let mut k: u32 = 0;
+    while k < number {
+        next = count(next);
+        k += 1;
+    }
     next
 }

@@ -1,0 +1,29 @@
+-- Document 01's number and values for each answer of the code.
+use Prim.Native.Nat.{ℕ}
+use mathlib.Core.List.{List, []}
+use Rattle.refusal.specs.Reply.{Reply, refused, accepted}
+use Rattle.refusal.specs.Refusal.{refusalNumber}
+use Rattle.board.specs.declared.Board.{Board}
+use Rattle.board.specs.declared.Answer.{Answer}
+use Rattle.board.specs.declared.Answer.the-variants.{Refused, Done, Place, Byte, Ticks, OutputState, Count, Retriggers, Dirty}
+use Rattle.board.specs.declared.Answered.{Answered}
+use Rattle.board.specs.Outcome.{Value, done, place, byte, ticks, outputState, channelCount, retriggers, dirtyMarks, Outcome}
+
+abbrev pub replyOf : Answer → Reply Value
+replyOf (Refused refusal) = refused (refusalNumber refusal)
+replyOf Done = accepted done
+replyOf (Place p) = accepted (place p)
+replyOf (Byte x) = accepted (byte x)
+replyOf (Ticks t) = accepted (ticks (t .0))
+replyOf (OutputState level) = accepted (outputState level)
+replyOf (Count c) = accepted (channelCount (c .«count_register») (c .«counting_element») (c .counting))
+replyOf (Retriggers answer) = accepted (retriggers answer)
+replyOf (Dirty dirty counting ticked) = accepted (dirtyMarks dirty counting ticked)
+
+-- an answer with the board beside it, and the lent bytes at the call's end
+abbrev pub outcome : Answered → List ℕ → Outcome
+outcome r events = record { reply = replyOf (r .answer); board = r .board; events = events }
+
+-- the answer of a query, which hands no board back: the caller's stays as it is
+abbrev pub queried : Answer → Board → Outcome
+queried answer b = record { reply = replyOf answer; board = b; events = [] }

@@ -1,0 +1,25 @@
+-- A board with one of its parts put in the place of another, and a channel found by its place.
+use Prim.Native.Nat.{ℕ}
+use mathlib.Core.List.{List}
+use lib.ListN.{getD, set}
+use Rattle.channel.specs.declared.Channel.{Channel}
+use Rattle.channel.specs.Blank.{blank}
+use Rattle.board.specs.declared.Board.{Board}
+
+-- "A record holds no channel number; its place is its number."
+abbrev pub channelAt : Board → ℕ → Channel
+channelAt b n = getD (b .channels) n blank
+
+abbrev pub withChannels : Board → List Channel → Board
+withChannels b channels =
+    record {
+      channels = channels;
+      model = b .model;
+      divisor = b .divisor;
+      remainder = b .remainder;
+      warp = b .warp;
+      defer = b .defer;
+    }
+
+abbrev pub withChannel : Board → ℕ → Channel → Board
+withChannel b n c = withChannels b (set (b .channels) n c)

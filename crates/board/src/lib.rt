@@ -1,0 +1,46 @@
+// Three channels behind four ports, by value: a call takes a board and hands one back.
+pub mod counting;
+pub mod making;
+pub mod queries;
+
+use channel::Channel;
+use channel::PitType;
+use channel::queries::ChannelCount;
+use refusal::Refusal;
+use time::SystemTicks;
+use time::TimerTicks;
+
+pub struct Board {
+    // A channel's place here is its number.
+    pub channels: [Channel; 3],
+    pub model: PitType,
+    // System ticks to a timer tick.
+    pub divisor: u32,
+    // System ticks that have not made up a timer tick yet.
+    pub remainder: SystemTicks,
+    // System ticks that a catch-up has already taken of the next run.
+    pub warp: SystemTicks,
+    // Whether the next complete load waits one load cycle longer.
+    pub defer: bool,
+}
+
+// What a call answers. Each call has one case of its own besides the refusal.
+pub enum Answer {
+    Refused(Refusal),
+    // Counts, load cycle, making a board.
+    Done,
+    // Port write and gate: the new place in the event bytes.
+    Place(usize),
+    Byte(u8),
+    Ticks(TimerTicks),
+    OutputState(bool),
+    Count(ChannelCount),
+    Retriggers(bool),
+    // Dirty, counting, ticked.
+    Dirty(bool, bool, bool),
+}
+
+pub struct Answered {
+    pub answer: Answer,
+    pub board: Board,
+}

@@ -1,0 +1,37 @@
+-- Document 01, "Time and reset": catch-up and run.
+use Prim.Native.Nat.{ℕ}
+use mathlib.Core.Bool.{Bool, true}
+use mathlib.Core.List.{[]}
+use Rattle.refusal.specs.Reply.{Reply, refused, accepted}
+use Rattle.time.specs.Time.{Yield, ticksFromTime}
+use Rattle.board.specs.declared.Board.{Board}
+use Rattle.board.specs.Outcome.{Outcome, ticks, refuse, accept}
+
+-- "A catch-up or run adds ticks minus warp to the remainder", with the board's own divisor, remainder and warp. Refusals 3, 4, 5
+abbrev pub elapsed : Board → ℕ → Reply Yield
+elapsed b given = ticksFromTime given (b .warp .0) (b .remainder .0) (b .divisor)
+
+-- the board with another remainder, warp and defer flag
+abbrev pub withTime : Board → ℕ → ℕ → Bool → Board
+withTime b remainder warp defer =
+    record {
+      channels = b .channels;
+      model = b .model;
+      divisor = b .divisor;
+      remainder = record { 0 = remainder };
+      warp = record { 0 = warp };
+      defer = defer;
+    }
+
+-- "yields quotient by the divisor as timer ticks, keeps the rest", and leaves this warp and defer flag
+abbrev pub yielding : Board → ℕ → Bool → Reply Yield → Outcome
+yielding b warp defer (refused number) = refuse number b []
+yielding b warp defer (accepted made) = accept (ticks (made .ticks)) (withTime b (made .left) warp defer)
+
+-- "Catch-up then sets the warp to its ticks and the defer flag to true"
+unfoldable pub catchUp : Board → ℕ → Outcome
+catchUp b given = yielding b given true (elapsed b given)
+
+-- "run sets the warp to 0"
+unfoldable pub run : Board → ℕ → Outcome
+run b given = yielding b 0 (b .defer) (elapsed b given)

@@ -1,0 +1,69 @@
+// The board's time: system ticks come in, timer ticks come out. The caller performs them.
+use board::Answer;
+use board::Answered;
+use board::Board;
+use time::Passed;
+use time::SystemTicks;
+ghost use mathlib.Core.Path.{_≡_};
+ghost use mathlib.Core.List.{[]};
+ghost use Rattle.board.specs.Answer.{outcome};
+ghost use Rattle.time.specs.Time.{passedReply};
+ghost use Rattle.clock.specs.Clock.{elapsed, catchUp, run};
+
+fn pass(b: Board, ticks: SystemTicks) -> Passed
+    ensures { λ r. ⌜ passedReply r ≡ elapsed b (ticks .0) ⌝ }
+{
+    let warp = b.warp;
+    let remainder = b.remainder;
+    time::ticks_from_time(ticks, warp, remainder, b.divisor)
+}
+
+// Before a write: the chip is brought up to the processor, and the ticks taken so stand as the warp until the run. Refusals 3, 4, 5.
+pub fn catch_up(b: Board, ticks: SystemTicks) -> Answered
+    ensures { λ r. ⌜ outcome r [] ≡ catchUp b (ticks .0) ⌝ }
+{
+    let passed = pass(b, ticks);
+    match passed {
+        Passed::Refused(refusal) => Answered {
+            answer: Answer::Refused(refusal),
+            board: b,
+        },
+        Passed::Converted(conversion) => {
+            let yielded = conversion.ticks;
+            let rest = conversion.remainder;
+            let mut board = b;
+            board.remainder = rest;
+            board.warp = ticks;
+            board.defer = true;
+            Answered {
+                answer: Answer::Ticks(yielded),
+                board,
+            }
+        }
+    }
+}
+
+// After an instruction: what the warp already took is not taken twice, and the warp ends. Refusals 3, 4, 5.
+pub fn run(b: Board, ticks: SystemTicks) -> Answered
+    ensures { λ r. ⌜ outcome r [] ≡ run b (ticks .0) ⌝ }
+{
+    let passed = pass(b, ticks);
+    match passed {
+        Passed::Refused(refusal) => Answered {
+            answer: Answer::Refused(refusal),
+            board: b,
+        },
+        Passed::Converted(conversion) => {
+            let yielded = conversion.ticks;
+            let rest = conversion.remainder;
+            let warp = SystemTicks(0);
+            let mut board = b;
+            board.remainder = rest;
+            board.warp = warp;
+            Answered {
+                answer: Answer::Ticks(yielded),
+                board,
+            }
+        }
+    }
+}

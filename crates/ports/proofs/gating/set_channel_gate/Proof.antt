@@ -1,0 +1,26 @@
+-- `ports::gating::set_channel_gate` meets its contract. Assumes nothing.
+use borrow.Author.Tests.{lt-ltb, le-ltb}
+use borrow.Author.Needs.{needs}
+use Rattle.ports.specs.Gates.{setChannelGate}
+use Rattle.ports.proofs.gating.set_channel_gate.Statement.{statement}
+use Rattle.ports.proofs.gating.set_channel_gate.Tie as tie
+
+returns : tie.Need-returns
+unfolding setChannelGate
+returns c = simp (lt-ltb _ _ (c .if1 .taken))
+
+returns-2 : tie.Need-returns-2
+unfolding setChannelGate
+returns-2 c = simp (c .before .before .settle .ensures, c .before .before .before .before .set-gate .ensures, le-ltb _ _ (c .before .before .before .before .before .before .if1 .left))
+
+pub set-channel-gate-spec : {M : Type 1} → statement M
+set-channel-gate-spec =
+    tie.close
+    (tie.spec
+    returns
+    (λ c. search needs)
+    (λ c. search needs)
+    (λ c κs. search needs)
+    (λ c κs. search needs)
+    (λ c. search needs)
+    returns-2)

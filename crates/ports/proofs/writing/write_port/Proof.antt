@@ -1,0 +1,38 @@
+-- `ports::writing::write_port` meets its contract. Assumes nothing.
+use mathlib.Core.Path.{sym, _∙_}
+use borrow.Author.Needs.{needs}
+use Rattle.ports.proofs.Below.{data-below}
+use Rattle.ports.specs.Writes.{writePort}
+use Rattle.ports.proofs.writing.write_port.Statement.{statement}
+use Rattle.ports.proofs.writing.write_port.Tie as tie
+
+data-write-requires : tie.Need-data-write-requires
+data-write-requires c κs = data-below _ _ (sym (c .before .before .before .before .port-of .ensures) ∙ c .before .before .known .given .1)
+
+returns : tie.Need-returns
+unfolding writePort
+returns c = simp (c .before .before .data-write .ensures, sym (c .before .before .before .before .before .before .before .port-of .ensures) ∙ c .before .before .before .before .before .known .given .1)
+
+returns-2 : tie.Need-returns-2
+unfolding writePort
+returns-2 c = simp (c .before .before .control-register-write .ensures, sym (c .before .before .before .before .before .before .port-of .ensures) ∙ c .before .before .before .before .enum-told .given .1)
+
+returns-3 : tie.Need-returns-3
+unfolding writePort
+returns-3 c = simp (sym (c .before .before .port-of .ensures) ∙ c .enum-told2 .given .1)
+
+pub write-port-spec : {M : Type 1} → statement M
+write-port-spec =
+    tie.close
+    (tie.spec
+    (λ c κs. search needs)
+    (λ c. search needs)
+    data-write-requires
+    (λ c. search needs)
+    (λ c κs. search needs)
+    (λ c. search needs)
+    (λ c. search needs)
+    returns
+    (λ c. search needs)
+    returns-2
+    returns-3)

@@ -1,0 +1,12 @@
+-- Document 01: the gate call, with refusals 2, 7, 8 in this order.
+use Prim.Native.Nat.{ℕ}
+use mathlib.Core.Bool.{Bool}
+use mathlib.Core.List.{List}
+use Rattle.gate.specs.Gate.{setGate}
+use Rattle.board.specs.declared.Board.{Board}
+use Rattle.board.specs.Board.{channelAt}
+use Rattle.board.specs.Outcome.{Outcome, onChannel}
+use Rattle.ports.specs.Settle.{settle}
+
+unfoldable pub setChannelGate : Board → ℕ → Bool → List ℕ → ℕ → Outcome
+setChannelGate b n level events p = onChannel b n events (settle b n (setGate (channelAt b n) level) events p)

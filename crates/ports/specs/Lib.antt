@@ -1,0 +1,5 @@
+pub mod Port
+pub mod Settle
+pub mod Gates
+pub mod Reads
+pub mod Writes

@@ -1,0 +1,30 @@
+// A level at a channel's gate.
+use crate::settling::settle;
+use board::Answer;
+use board::Answered;
+use board::Board;
+use refusal::Refusal;
+ghost use mathlib.Core.Path.{_≡_};
+ghost use Rattle.board.specs.Answer.{outcome};
+ghost use Rattle.ports.specs.Gates.{setChannelGate};
+
+// Refusals 2, 7 and 8.
+pub fn set_channel_gate(
+    b: Board,
+    channel: usize,
+    level: bool,
+    events: &mut [u8],
+    place: usize,
+) -> Answered
+    ensures { λ r. ⌜ outcome r (now (events .exit)) ≡ setChannelGate b channel level (now (events .entry)) place ⌝ }
+{
+    if 2 < channel {
+        return Answered {
+            answer: Answer::Refused(Refusal::ChannelAbove2),
+            board: b,
+        };
+    }
+    let c = b.channels[channel];
+    let gated = gate::set_gate(c, level);
+    settle(b, channel, gated, events, place)
+}

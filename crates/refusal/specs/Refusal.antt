@@ -1,0 +1,22 @@
+-- Document 01, "Refusal numbers": the number of each refusal.
+use Prim.Native.Nat.{ℕ}
+use Rattle.refusal.specs.declared.Refusal.{Refusal}
+use Rattle.refusal.specs.declared.Refusal.the-variants.{PortUnknown, ChannelAbove2, DivisorZero, TicksBelowWarp, RemainderTooLarge, TooManyCounts, PlacePastEnd, NoRoom}
+
+abbrev pub refusalNumber : Refusal → ℕ
+-- "port not 0x40 to 0x43"
+refusalNumber PortUnknown = 1
+-- "channel above 2"
+refusalNumber ChannelAbove2 = 2
+-- "divisor 0"
+refusalNumber DivisorZero = 3
+-- "ticks below the warp"
+refusalNumber TicksBelowWarp = 4
+-- "remainder + (ticks - warp) above 4,294,967,295"
+refusalNumber RemainderTooLarge = 5
+-- "more than 65,536 counts asked in one call"
+refusalNumber TooManyCounts = 6
+-- "event place past the end of the event bytes"
+refusalNumber PlacePastEnd = 7
+-- "an event is due and fewer than 2 bytes are left from the place"
+refusalNumber NoRoom = 8

@@ -1,0 +1,31 @@
+// Why a call is refused: document 01's table of refusal numbers, the calls of the board.
+ghost use mathlib.Core.Path.{_≡_};
+ghost use Rattle.refusal.specs.Refusal.{refusalNumber};
+
+pub enum Refusal {
+    PortUnknown,
+    ChannelAbove2,
+    DivisorZero,
+    TicksBelowWarp,
+    RemainderTooLarge,
+    TooManyCounts,
+    PlacePastEnd,
+    NoRoom,
+}
+
+impl Refusal {
+    pub fn number(self) -> u8
+        ensures { λ r. ⌜ r ≡ refusalNumber self ⌝ }
+    {
+        match self {
+            Refusal::PortUnknown => 1,
+            Refusal::ChannelAbove2 => 2,
+            Refusal::DivisorZero => 3,
+            Refusal::TicksBelowWarp => 4,
+            Refusal::RemainderTooLarge => 5,
+            Refusal::TooManyCounts => 6,
+            Refusal::PlacePastEnd => 7,
+            Refusal::NoRoom => 8,
+        }
+    }
+}
