@@ -5,8 +5,8 @@ use mathlib.Core.Path.{_≡_, refl, subst}
 use native.Mathlib.Omega.{arith}
 use lib.Dec.{ltb, eqb}
 use borrow.Author.Tests.{ltb-true, ltb-false}
-use Rattle.ports.specs.declared.Port.{Port}
-use Rattle.ports.specs.declared.Port.the-variants.{Data, Command, Unknown}
+use Rattle.ports.specs.declared.port.Port.{Port}
+use Rattle.ports.specs.declared.port.Port.the-variants.{Data, Command, Unknown}
 use Rattle.ports.specs.Port.{portOf}
 
 abbrev Reaches : Port → Type 0

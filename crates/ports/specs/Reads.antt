@@ -6,8 +6,8 @@ use Rattle.latch.specs.Reading.{readByte}
 use Rattle.board.specs.declared.Board.{Board}
 use Rattle.board.specs.Board.{channelAt, withChannel}
 use Rattle.board.specs.Outcome.{Outcome, byte, refuse, accept}
-use Rattle.ports.specs.declared.Port.{Port}
-use Rattle.ports.specs.declared.Port.the-variants.{Data, Command, Unknown}
+use Rattle.ports.specs.declared.port.Port.{Port}
+use Rattle.ports.specs.declared.port.Port.the-variants.{Data, Command, Unknown}
 use Rattle.ports.specs.Port.{portOf}
 
 abbrev pub readInto : Board → ℕ → ByteRead → Outcome

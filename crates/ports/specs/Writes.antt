@@ -11,8 +11,8 @@ use Rattle.load.specs.Write.{writeByte}
 use Rattle.board.specs.declared.Board.{Board}
 use Rattle.board.specs.Board.{channelAt}
 use Rattle.board.specs.Outcome.{Outcome, refuse}
-use Rattle.ports.specs.declared.Port.{Port}
-use Rattle.ports.specs.declared.Port.the-variants as port
+use Rattle.ports.specs.declared.port.Port.{Port}
+use Rattle.ports.specs.declared.port.Port.the-variants as port
 use Rattle.ports.specs.Port.{portOf}
 use Rattle.ports.specs.Settle.{settle, untouched}
 

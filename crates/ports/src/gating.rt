@@ -1,5 +1,5 @@
 // A level at a channel's gate.
-use crate::settling::settle;
+use crate::settle;
 use board::Answer;
 use board::Answered;
 use board::Board;

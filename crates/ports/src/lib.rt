@@ -1,35 +1,68 @@
 // Ports and gates: the calls of the board that may change an output, and the read.
+//
+// Here stands what the first share: a channel put back on its board, with the event of its output where there is one.
 mod gating;
+pub mod port;
 mod reading;
-mod settling;
 mod writing;
 
+use board::Answer;
+use board::Answered;
+use board::Board;
+use channel::Channel;
+use event::Event;
+use event::Placed;
 pub use gating::set_channel_gate;
 pub use reading::read_port;
 pub use writing::write_port;
 ghost use mathlib.Core.Path.{_≡_};
-ghost use Rattle.ports.specs.Port.{portOf};
+ghost use Rattle.board.specs.Answer.{replyOf, outcome};
+ghost use Prim.Native.Nat.{_<_};
+ghost use Rattle.event.specs.Event.{placedReply};
+ghost use Rattle.ports.specs.Settle.{levelEvent, placeReply, boardAfter, settle, untouched};
 
-pub enum Port {
-    // A channel's data port.
-    Data(usize),
-    Command,
-    // None of the timer's four.
-    Unknown,
+// The new board where the event was placed, the old one where it was refused.
+fn answering(placed: Placed, old: Board, new: Board) -> Answered
+    ensures { λ r. ⌜ (replyOf (r .answer) ≡ placeReply (placedReply placed)) × (r .board ≡ boardAfter (placedReply placed) old new) ⌝ }
+{
+    match placed {
+        Placed::At(place) => Answered {
+            answer: Answer::Place(place),
+            board: new,
+        },
+        Placed::Refused(refusal) => Answered {
+            answer: Answer::Refused(refusal),
+            board: old,
+        },
+    }
 }
 
-// The IBM PC's numbers: 0x40, 0x41, 0x42, and 0x43 for commands.
-pub fn port_of(port: u16) -> Port
-    ensures { λ r. ⌜ r ≡ portOf port ⌝ }
+fn level_event(n: usize, old: Channel, new: Channel) -> Event
+    requires { ⌜ n < 3 ⌝ }
+    ensures { λ r. ⌜ r ≡ levelEvent n old new ⌝ }
 {
-    if port < 0x40 {
-        return Port::Unknown;
-    }
-    if port < 0x43 {
-        return Port::Data((port - 0x40) as usize);
-    }
-    if port == 0x43 {
-        return Port::Command;
-    }
-    Port::Unknown
+    let was = old.pins;
+    let is = new.pins;
+    event::event_of(n as u8, was.output, is.output)
+}
+
+// A call that leaves another channel at place n. Refusals 7 and 8.
+fn settle(b: Board, n: usize, c: Channel, events: &mut [u8], place: usize) -> Answered
+    requires { ⌜ n < 3 ⌝ }
+    ensures { λ r. ⌜ outcome r (now (events .exit)) ≡ settle b n c (now (events .entry)) place ⌝ }
+{
+    let old = b.channels[n];
+    let event = level_event(n, old, c);
+    let placed = event::place_event(events, place, event);
+    let mut board = b;
+    board.channels[n] = c;
+    answering(placed, b, board)
+}
+
+// A call that changes nothing. Refusal 7 is given all the same.
+fn untouched(b: Board, events: &mut [u8], place: usize) -> Answered
+    ensures { λ r. ⌜ outcome r (now (events .exit)) ≡ untouched b (now (events .entry)) place ⌝ }
+{
+    let placed = event::place_event(events, place, Event::Unchanged);
+    answering(placed, b, b)
 }

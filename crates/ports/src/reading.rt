@@ -1,6 +1,6 @@
 // A byte read from a port.
-use crate::Port;
-use crate::port_of;
+use crate::port::Port;
+use crate::port::port_of;
 use board::Answer;
 use board::Answered;
 use board::Board;

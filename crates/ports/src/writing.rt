@@ -1,8 +1,8 @@
 // A byte written to a port. It takes no time.
-use crate::Port;
-use crate::port_of;
-use crate::settling::settle;
-use crate::settling::untouched;
+use crate::port::Port;
+use crate::port::port_of;
+use crate::settle;
+use crate::untouched;
 use board::Answer;
 use board::Answered;
 use board::Board;

@@ -1,7 +1,7 @@
--- `ports::settling::answering` meets its contract. Assumes nothing.
+-- `ports::answering` meets its contract. Assumes nothing.
 use borrow.Author.Needs.{needs}
-use Rattle.ports.proofs.settling.answering.Statement.{statement}
-use Rattle.ports.proofs.settling.answering.Tie as tie
+use Rattle.ports.proofs.answering.Statement.{statement}
+use Rattle.ports.proofs.answering.Tie as tie
 
 returns : tie.Need-returns
 returns c = let h = c .before .placed .given .1 in (simp h, simp h)

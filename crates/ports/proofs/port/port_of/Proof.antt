@@ -1,9 +1,9 @@
--- `ports::port_of` meets its contract. Assumes nothing.
+-- `ports::port::port_of` meets its contract. Assumes nothing.
 use borrow.Author.Tests.{lt-ltb, le-ltb, eq-eqb, ne-eqb}
 use borrow.Author.Needs.{needs}
 use Rattle.ports.specs.Port.{portOf}
-use Rattle.ports.proofs.port_of.Statement.{statement}
-use Rattle.ports.proofs.port_of.Tie as tie
+use Rattle.ports.proofs.port.port_of.Statement.{statement}
+use Rattle.ports.proofs.port.port_of.Tie as tie
 
 returns : tie.Need-returns
 unfolding portOf

@@ -1,11 +1,11 @@
--- `ports::settling::settle` meets its contract. Assumes nothing.
+-- `ports::settle` meets its contract. Assumes nothing.
 use mathlib.Core.Path.{ap, _∙_}
 use borrow.Author.Needs.{needs}
 use Rattle.ports.specs.Settle.{placedOn, settle}
 use Rattle.event.specs.Event.{placeEvent}
 use Rattle.board.specs.Board.{withChannel}
-use Rattle.ports.proofs.settling.settle.Statement.{statement}
-use Rattle.ports.proofs.settling.settle.Tie as tie
+use Rattle.ports.proofs.settle.Statement.{statement}
+use Rattle.ports.proofs.settle.Tie as tie
 
 returns : tie.Need-returns
 unfolding settle

@@ -1,9 +1,9 @@
--- `ports::settling::untouched` meets its contract. Assumes nothing.
+-- `ports::untouched` meets its contract. Assumes nothing.
 use mathlib.Core.Path.{ap}
 use borrow.Author.Needs.{needs}
 use Rattle.ports.specs.Settle.{placedOn, untouched}
-use Rattle.ports.proofs.settling.untouched.Statement.{statement}
-use Rattle.ports.proofs.settling.untouched.Tie as tie
+use Rattle.ports.proofs.untouched.Statement.{statement}
+use Rattle.ports.proofs.untouched.Tie as tie
 
 returns : tie.Need-returns
 unfolding untouched
