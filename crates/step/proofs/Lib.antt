@@ -1,0 +1,4 @@
+pub mod Levels
+pub mod Deciding
+pub mod Settled
+pub mod Refusals

@@ -1,0 +1,6 @@
+pub mod Operation
+pub mod Step
+pub mod Levels
+pub mod Refusals
+pub mod Time
+pub mod Events
