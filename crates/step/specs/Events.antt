@@ -1,15 +1,31 @@
--- Document 01, "Output events": what the lent bytes are after an accepted call.
-use Prim.Native.Nat.{ℕ, _+_, _<_, _≤_}
+-- Document 01, "Output events": what the lent bytes and the new place tell of an accepted call, before and after.
+use Prim.Native.Nat.{ℕ, _+_, _<_}
 use mathlib.Core.Bool.{Bool}
 use mathlib.Core.List.{List}
 use mathlib.Core.Logic.{_⊎_}
 use mathlib.Core.Path.{_≡_}
-use lib.ListN.{length, getD}
-use Rattle.numbers.specs.Flags.{flagNumber}
+use Rattle.event.specs.Written.{Written}
+use Rattle.board.specs.declared.Board.{Board}
+use Rattle.board.specs.Board.{channelAt}
+use Rattle.board.specs.Outcome.{Outcome}
 
--- "two bytes, the channel's place on the board (0 to 2) then level (0 or 1), ... from the given place on"; "No other byte changes."
-pub record OneEvent (before after : List ℕ) (place channel : ℕ) (level : Bool) : Type 0 where
-  pub same-length : length after ≡ length before
-  pub channel-byte : getD after place 0 ≡ channel
-  pub level-byte : getD after (place + 1) 0 ≡ flagNumber level
-  pub others-kept : (i : ℕ) → (i < place) ⊎ (place + 2 ≤ i) → getD after i 0 ≡ getD before i 0
+abbrev pub levelAt : Board → ℕ → Bool
+levelAt b n = channelAt b n .pins .output
+
+-- "the old if no event": every output stands where it stood, and no byte changes
+pub record NoEvent (b : Board) (events : List ℕ) (from : ℕ) (outcome : Outcome) (new : ℕ) : Type 0 where
+  pub same-place : new ≡ from
+  pub same-bytes : outcome .events ≡ events
+  pub same-levels : (m : ℕ) → levelAt (outcome .board) m ≡ levelAt b m
+
+-- "The new place is the old plus 2": the bytes name the one channel whose output changed, and its level now; "No other byte changes."
+pub record OneEvent (b : Board) (events : List ℕ) (from : ℕ) (outcome : Outcome) (new : ℕ) : Type 0 where
+  pub channel : ℕ
+  pub on-board : channel < 3
+  pub next-place : new ≡ from + 2
+  pub written : Written events (outcome .events) from channel (levelAt (outcome .board) channel)
+  pub changed : levelAt b channel ≡ levelAt (outcome .board) channel → ⊥
+  pub others-stand : (m : ℕ) → (m ≡ channel → ⊥) → levelAt (outcome .board) m ≡ levelAt b m
+
+abbrev pub Told : Board → List ℕ → ℕ → Outcome → ℕ → Type 0
+Told b events from outcome new = NoEvent b events from outcome new ⊎ OneEvent b events from outcome new

@@ -1,7 +1,6 @@
 -- Document 01, "Time and reset": what a list of operations took in and gave out.
 use Prim.Native.Nat.{ℕ, _+_, _-_}
 use mathlib.Core.List.{List, [], _∷_}
-use mathlib.Core.Path.{_≡_}
 use Rattle.refusal.specs.Reply.{Reply, refused, accepted}
 use Rattle.board.specs.declared.Board.{Board}
 use Rattle.board.specs.Outcome.{Value, done, place, byte, ticks, outputState, channelCount, retriggers, dirtyMarks, timerAccum}
@@ -54,11 +53,3 @@ allYielded b (o ∷ os) = yielded (step b o .reply) + allYielded (step b o .boar
 abbrev pub allTaken : Board → List Operation → ℕ
 allTaken b [] = 0
 allTaken b (o ∷ os) = taken b o + allTaken (step b o .board) os
-
--- what no operation but catch-up and run touches
-pub record TimeKept (before after : Board) : Type 0 where
-  pub model-kept : after .model ≡ before .model
-  pub divisor-kept : after .divisor ≡ before .divisor
-  pub remainder-kept : after .remainder ≡ before .remainder
-  pub warp-kept : after .warp ≡ before .warp
-  pub defer-kept : after .defer ≡ before .defer

@@ -1,0 +1,104 @@
+-- What holds of every refusal, of every accepted outcome that changes only channels, and of catch-up and run, holds of every step. Assumes nothing.
+use Prim.Native.Nat.{ℕ, _-_}
+use mathlib.Core.Path.{_≡_, refl}
+use mathlib.Core.Bool.{Bool, true}
+use mathlib.Core.List.{List, []}
+use lib.Dec.{ltb}
+use lib.ListN.{length}
+use Rattle.refusal.specs.Reply.{accepted}
+use Rattle.channel.specs.declared.Channel.{Channel}
+use Rattle.channel.proofs.Pick.{pick-holds}
+use Rattle.control.specs.declared.Command.{Command}
+use Rattle.control.specs.declared.Command.the-variants.{Nothing, LatchCount, SetMode}
+use Rattle.control.specs.Control.{commandOf}
+use Rattle.event.specs.declared.Event.{Event}
+use Rattle.event.specs.declared.Event.the-variants.{Unchanged, Level}
+use Rattle.event.specs.Event.{Placing, placeDue, placeEvent}
+use Rattle.board.specs.declared.Board.{Board}
+use Rattle.board.specs.Board.{withChannels}
+use Rattle.board.specs.Outcome.{Outcome, Value, place, refuse, accept, onChannel}
+use Rattle.board.specs.Making.{reset}
+use Rattle.board.specs.Counting.{counts, loadCycle}
+use Rattle.board.specs.Queries.{getOutputState, getChannelCount, doesChannelRetrigger, isDirty}
+use Rattle.clock.specs.Clock.{elapsed, yielding, catchUp, run}
+use Rattle.ports.specs.declared.port.Port.{Port}
+use Rattle.ports.specs.declared.port.Port.the-variants.{Data, Command as CommandPort, Unknown}
+use Rattle.ports.specs.Port.{portOf}
+use Rattle.ports.specs.Settle.{placedOn, settle, untouched}
+use Rattle.ports.specs.Gates.{setChannelGate}
+use Rattle.ports.specs.Reads.{readFrom, readPort}
+use Rattle.ports.specs.Writes.{controlRegisterWrite, writeTo, writePort}
+use Rattle.step.specs.Operation.{Operation, WritePort, ReadPort, SetChannelGate, Counts, LoadCycle, CatchUp, Run, Reset, GetOutputState, GetChannelCount, DoesChannelRetrigger, IsDirty, GetTimerAccum, lent}
+use Rattle.step.specs.Step.{step}
+use Rattle.step.specs.Time.{ticksIn, ifAccepted, taken}
+
+-- P speaks of the lent bytes, of the system ticks taken in, and of the outcome
+module _ (b : Board) (P : List ℕ → ℕ → Outcome → Type 0)
+    (refuses : (events : List ℕ) (number : ℕ) → P events 0 (refuse number b events))
+    (accepts : (events bytes : List ℕ) (value : Value) (channels : List Channel) → ticksIn value ≡ 0
+    → P events 0 (record { reply = accepted value; board = withChannels b channels; events = bytes }))
+    (times : (given warp : ℕ) (defer : Bool)
+    → P [] (ifAccepted (yielding b warp defer (elapsed b given) .reply) (given - b .warp .0)) (yielding b warp defer (elapsed b given)))
+  where
+    on-channel : (n : ℕ) (events : List ℕ) (outcome : Outcome) → P events 0 outcome → P events 0 (onChannel b n events outcome)
+    on-channel n events outcome = pick-holds (P events 0) (ltb 2 n) (refuse 2 b events) outcome (refuses events 2)
+
+    accepted-on : (n : ℕ) (value : Value) (channels : List Channel) → ticksIn value ≡ 0
+        → P [] 0 (onChannel b n [] (accept value (withChannels b channels)))
+    accepted-on n value channels none = on-channel n [] _ (accepts [] [] value channels none)
+
+    counts-every : (n number : ℕ) → P [] 0 (counts b n number)
+    unfolding counts
+    counts-every n number =
+        on-channel n [] _ (pick-holds (P [] 0) (ltb 65536 number) (refuse 6 b []) _ (refuses [] 6) (accepts [] [] _ _ refl))
+
+    event-due : (event : Event) (channels : List Channel) (events : List ℕ) (from : ℕ)
+        → P events 0 (placedOn b (withChannels b channels) (placeDue event events from))
+    event-due Unchanged channels events from = accepts events events (place from) channels refl
+    event-due (Level n level) channels events from =
+        pick-holds (λ (p : Placing). P events 0 (placedOn b (withChannels b channels) p)) (ltb (length events - from) 2) _ _ (refuses events 8)
+        (accepts events _ _ channels refl)
+
+    event-every : (event : Event) (channels : List Channel) (events : List ℕ) (from : ℕ)
+        → P events 0 (placedOn b (withChannels b channels) (placeEvent event events from))
+    unfolding placeEvent
+    event-every event channels events from =
+        pick-holds (λ (p : Placing). P events 0 (placedOn b (withChannels b channels) p)) (ltb (length events) from) _ _ (refuses events 7)
+        (event-due event channels events from)
+
+    command-every : (command : Command) (events : List ℕ) (from : ℕ) → P events 0 (controlRegisterWrite b command events from)
+    unfolding settle untouched
+    command-every Nothing events from = event-every _ (b .channels) events from
+    command-every (LatchCount n) events from = event-every _ _ events from
+    command-every (SetMode n word) events from = event-every _ _ events from
+
+    write-every : (port : Port) (byte : ℕ) (events : List ℕ) (from : ℕ) → P events 0 (writeTo b port byte events from)
+    unfolding settle
+    write-every (Data n) byte events from = event-every _ _ events from
+    write-every CommandPort byte events from = command-every (commandOf byte) events from
+    write-every Unknown byte events from = refuses events 1
+
+    gate-every : (n : ℕ) (level : Bool) (events : List ℕ) (from : ℕ) → P events 0 (setChannelGate b n level events from)
+    unfolding setChannelGate settle
+    gate-every n level events from = on-channel n events _ (event-every _ _ events from)
+
+    read-every : (port : Port) → P [] 0 (readFrom b port)
+    read-every (Data n) = accepts [] [] _ _ refl
+    read-every CommandPort = accepts [] [] _ (b .channels) refl
+    read-every Unknown = refuses [] 1
+
+    pub every-step : (o : Operation) → P (lent o) (taken b o) (step b o)
+    unfolding reset writePort readPort loadCycle catchUp run getOutputState getChannelCount doesChannelRetrigger isDirty
+    every-step (WritePort port byte events from) = write-every (portOf port) byte events from
+    every-step (ReadPort port) = read-every (portOf port)
+    every-step (SetChannelGate n level events from) = gate-every n level events from
+    every-step (Counts n number) = counts-every n number
+    every-step (LoadCycle n) = accepted-on n _ _ refl
+    every-step (CatchUp given) = times given given true
+    every-step (Run given) = times given 0 (b .defer)
+    every-step Reset = accepts [] [] _ _ refl
+    every-step (GetOutputState n) = accepted-on n _ (b .channels) refl
+    every-step (GetChannelCount n) = accepted-on n _ (b .channels) refl
+    every-step (DoesChannelRetrigger n) = accepted-on n _ (b .channels) refl
+    every-step (IsDirty n) = accepted-on n _ _ refl
+    every-step GetTimerAccum = accepts [] [] _ (b .channels) refl
