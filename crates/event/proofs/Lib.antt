@@ -1,2 +1,3 @@
 pub mod Lists
 pub mod Written
+pub mod Apart

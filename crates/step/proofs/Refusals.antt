@@ -9,6 +9,7 @@ use native.Mathlib.Omega.{arith}
 use lib.Dec.{ltb, eqb}
 use borrow.Author.Tests.{ltb-true, ltb-false, eqb-true, eqb-false}
 use Rattle.refusal.specs.Reply.{Reply, refused, accepted}
+use Rattle.channel.specs.declared.PitType.{PitType}
 use Rattle.channel.proofs.Pick.{of-pick}
 use Rattle.control.specs.declared.Command.{Command}
 use Rattle.control.specs.declared.Command.the-variants.{Nothing, LatchCount, SetMode}
@@ -21,6 +22,7 @@ use Rattle.time.specs.Time.{Yield, ticksFromTime, summed}
 use Rattle.board.specs.declared.Board.{Board}
 use Rattle.board.specs.Board.{channelAt}
 use Rattle.board.specs.Outcome.{Outcome, Value, accept, onChannel}
+use Rattle.board.specs.Making.{new}
 use Rattle.board.specs.Counting.{counts, loadCycle}
 use Rattle.board.specs.Queries.{getOutputState, getChannelCount, doesChannelRetrigger, isDirty}
 use Rattle.clock.specs.Clock.{elapsed, yielding, catchUp, run}
@@ -33,7 +35,7 @@ use Rattle.ports.specs.Writes.{controlRegisterWrite, dataWrite, writeTo, writeP
 use Rattle.step.specs.Operation.{Operation, WritePort, ReadPort, SetChannelGate, Counts, LoadCycle, CatchUp, Run, Reset, GetOutputState, GetChannelCount, DoesChannelRetrigger, IsDirty, GetTimerAccum}
 use Rattle.step.specs.Step.{step}
 use Rattle.step.specs.Levels.{levelAfterWrite, levelAfterGate, levelAfterMode}
-use Rattle.step.specs.Refusals.{Refusal, portUnknown, channelAbove2, divisorZero, ticksBelowWarp, remainderTooLarge, tooManyCounts, CommandDue, WriteDue, GateDue, roomOrder, timeOrder, order, FirstOf}
+use Rattle.step.specs.Refusals.{Refusal, portUnknown, channelAbove2, divisorZero, ticksBelowWarp, remainderTooLarge, tooManyCounts, CommandDue, WriteDue, GateDue, roomOrder, timeOrder, order, makingOrder, FirstOf}
 use Rattle.step.proofs.Levels.{write-level, gate-level, mode-level, latch-level}
 use Rattle.step.proofs.Deciding.{accepts, holding, failing, tested, below, equal}
 use Rattle.step.proofs.Settled.{changes, unchanged, settle-refused, untouched-refused}
@@ -61,7 +63,7 @@ time-refused : (b : Board) (given warp : ℕ) (defer : Bool) (k : ℕ)
 unfolding ticksFromTime
 time-refused b given warp defer k =
     simp (of-pick (λ (r : Reply Yield). yielding b warp defer r .reply))
-    (tested (eqb (b .divisor) 0) (divisorZero b) (ticksBelowWarp b given ∷ remainderTooLarge b given ∷ []) _ k (equal (b .divisor) 0)
+    (tested (eqb (b .divisor) 0) (divisorZero (b .divisor)) (ticksBelowWarp b given ∷ remainderTooLarge b given ∷ []) _ k (equal (b .divisor) 0)
     (tested (ltb given (b .warp .0)) (ticksBelowWarp b given) (remainderTooLarge b given ∷ []) _ k (below given (b .warp .0))
     (tested (ltb 4294967295 (summed given (b .warp .0) (b .remainder .0))) (remainderTooLarge b given) [] _ k (below 4294967295 (summed given (b .warp .0) (b .remainder .0)))
     (accepts _ k))))
@@ -144,3 +146,9 @@ refused-exactly b (GetChannelCount n) k = accepted-on b n _ _ k
 refused-exactly b (DoesChannelRetrigger n) k = accepted-on b n _ _ k
 refused-exactly b (IsDirty n) k = accepted-on b n _ _ k
 refused-exactly b GetTimerAccum k = accepts _ k
+
+-- making a board, which is no step of one
+pub making-refused : (model : PitType) (divisor k : ℕ) → (new model divisor .reply ≡ refused k) ↔ FirstOf (makingOrder divisor) k
+unfolding new
+making-refused model divisor k =
+    simp (of-pick (λ (o : Outcome). o .reply)) (tested (eqb divisor 0) (divisorZero divisor) [] _ k (equal divisor 0) (accepts _ k))

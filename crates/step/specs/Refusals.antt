@@ -30,8 +30,8 @@ abbrev pub channelAbove2 : ℕ → Refusal
 channelAbove2 channel = record { number = 2; condition = 2 < channel }
 
 -- 3: "divisor 0"
-abbrev pub divisorZero : Board → Refusal
-divisorZero b = record { number = 3; condition = b .divisor ≡ 0 }
+abbrev pub divisorZero : ℕ → Refusal
+divisorZero divisor = record { number = 3; condition = divisor ≡ 0 }
 
 -- 4: "ticks below the warp"
 abbrev pub ticksBelowWarp : Board → ℕ → Refusal
@@ -77,7 +77,7 @@ roomOrder due events place = placePastEnd events place ∷ noRoom due events pla
 
 -- "time calls 3, 4, 5"
 abbrev pub timeOrder : Board → ℕ → List Refusal
-timeOrder b given = divisorZero b ∷ ticksBelowWarp b given ∷ remainderTooLarge b given ∷ []
+timeOrder b given = divisorZero (b .divisor) ∷ ticksBelowWarp b given ∷ remainderTooLarge b given ∷ []
 
 -- "Order: port write 1, 7, 8; read 1; gate 2, 7, 8; counts 2, 6; load cycle and channel queries 2; time calls 3, 4, 5"
 abbrev pub order : Board → Operation → List Refusal
@@ -94,6 +94,10 @@ order b (GetChannelCount channel) = channelAbove2 channel ∷ []
 order b (DoesChannelRetrigger channel) = channelAbove2 channel ∷ []
 order b (IsDirty channel) = channelAbove2 channel ∷ []
 order b GetTimerAccum = []
+
+-- "making a board 3"
+abbrev pub makingOrder : ℕ → List Refusal
+makingOrder divisor = divisorZero divisor ∷ []
 
 -- the number of the first refusal whose condition holds: it holds, and none before it does
 abbrev pub FirstOf : List Refusal → ℕ → Type 0

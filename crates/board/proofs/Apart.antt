@@ -1,0 +1,39 @@
+-- An answer is known by document 01's number or values for it. Assumes nothing.
+use mathlib.Core.Path.{_≡_, refl, sym, ap, _∙_}
+use Rattle.refusal.specs.Reply.{Reply, refused, accepted}
+use Rattle.refusal.proofs.Numbered.{refusalNumbered, numbered-back}
+use Rattle.board.specs.declared.Answer.{Answer}
+use Rattle.board.specs.declared.Answer.the-variants.{Refused, Done, Place, Byte, Ticks, OutputState, Count, Retriggers, Dirty}
+use Rattle.board.specs.Outcome.{Value, done, place, byte, ticks, outputState, channelCount, retriggers, dirtyMarks, timerAccum}
+use Rattle.board.specs.Answer.{replyOf}
+
+-- `get_timer_accum` answers no enum; its value is given Done here
+abbrev valueAnswer : Value → Answer
+valueAnswer done = Done
+valueAnswer (place p) = Place p
+valueAnswer (byte x) = Byte x
+valueAnswer (ticks n) = Ticks (record { 0 = n })
+valueAnswer (outputState level) = OutputState level
+valueAnswer (channelCount register element counting) =
+    Count (record { «count_register» = register; «counting_element» = element; counting = counting })
+valueAnswer (retriggers answer) = Retriggers answer
+valueAnswer (dirtyMarks dirty counting ticked) = Dirty dirty counting ticked
+valueAnswer (timerAccum left) = Done
+
+abbrev answerOf : Reply Value → Answer
+answerOf (refused number) = Refused (refusalNumbered number)
+answerOf (accepted value) = valueAnswer value
+
+answer-back : (a : Answer) → answerOf (replyOf a) ≡ a
+answer-back (Refused refusal) = ap Refused (numbered-back refusal)
+answer-back Done = refl
+answer-back (Place p) = refl
+answer-back (Byte x) = refl
+answer-back (Ticks t) = refl
+answer-back (OutputState level) = refl
+answer-back (Count c) = refl
+answer-back (Retriggers answer) = refl
+answer-back (Dirty dirty counting ticked) = refl
+
+pub answers-apart : (a c : Answer) → replyOf a ≡ replyOf c → a ≡ c
+answers-apart a c e = sym (answer-back a) ∙ ap answerOf e ∙ answer-back c

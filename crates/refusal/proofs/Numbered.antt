@@ -1,0 +1,29 @@
+-- Each refusal has a number of its own. Assumes nothing.
+use Prim.Native.Nat.{ℕ}
+use mathlib.Core.List.{List, [], _∷_}
+use mathlib.Core.Path.{_≡_, refl, sym, ap, _∙_}
+use lib.ListN.{getD}
+use Rattle.refusal.specs.declared.Refusal.{Refusal}
+use Rattle.refusal.specs.declared.Refusal.the-variants.{PortUnknown, ChannelAbove2, DivisorZero, TicksBelowWarp, RemainderTooLarge, TooManyCounts, PlacePastEnd, NoRoom}
+use Rattle.refusal.specs.Refusal.{refusalNumber}
+
+-- 0 stands for none
+abbrev pub refusalNumbered : ℕ → Refusal
+refusalNumbered number =
+    getD
+    (PortUnknown ∷ PortUnknown ∷ ChannelAbove2 ∷ DivisorZero ∷ TicksBelowWarp ∷ RemainderTooLarge ∷ TooManyCounts ∷ PlacePastEnd ∷ NoRoom ∷ [])
+    number
+    NoRoom
+
+pub numbered-back : (r : Refusal) → refusalNumbered (refusalNumber r) ≡ r
+numbered-back PortUnknown = refl
+numbered-back ChannelAbove2 = refl
+numbered-back DivisorZero = refl
+numbered-back TicksBelowWarp = refl
+numbered-back RemainderTooLarge = refl
+numbered-back TooManyCounts = refl
+numbered-back PlacePastEnd = refl
+numbered-back NoRoom = refl
+
+pub numbers-apart : (r s : Refusal) → refusalNumber r ≡ refusalNumber s → r ≡ s
+numbers-apart r s e = sym (numbered-back r) ∙ ap refusalNumbered e ∙ numbered-back s
