@@ -2,6 +2,7 @@
 use Prim.Native.Nat.{ℕ}
 use mathlib.Core.List.{List, []}
 use Rattle.refusal.specs.Reply.{Reply, refused, accepted}
+use Rattle.refusal.specs.declared.Refusal.{Refusal}
 use Rattle.refusal.specs.Refusal.{refusalNumber}
 use Rattle.board.specs.declared.Board.{Board}
 use Rattle.board.specs.declared.Answer.{Answer}
@@ -27,3 +28,7 @@ outcome r events = record { reply = replyOf (r .answer); board = r .board; event
 -- the answer of a query, which hands no board back: the caller's stays as it is
 abbrev pub queried : Answer → Board → Outcome
 queried answer b = record { reply = replyOf answer; board = b; events = [] }
+
+-- what the code hands back where it refuses
+abbrev pub refusedBy : Refusal → Board → Answered
+refusedBy refusal b = record { answer = Refused refusal; board = b }

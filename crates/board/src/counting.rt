@@ -14,16 +14,10 @@ impl Board {
         ensures { λ r. ⌜ outcome r [] ≡ counts self channel number ⌝ }
     {
         if 2 < channel {
-            return Answered {
-                answer: Answer::Refused(Refusal::ChannelAbove2),
-                board: self,
-            };
+            return self.refuse(Refusal::ChannelAbove2);
         }
         if 65536 < number {
-            return Answered {
-                answer: Answer::Refused(Refusal::TooManyCounts),
-                board: self,
-            };
+            return self.refuse(Refusal::TooManyCounts);
         }
         let c = self.channels[channel];
         let counted = count::counts(c, number);
@@ -40,10 +34,7 @@ impl Board {
         ensures { λ r. ⌜ outcome r [] ≡ loadCycle self channel ⌝ }
     {
         if 2 < channel {
-            return Answered {
-                answer: Answer::Refused(Refusal::ChannelAbove2),
-                board: self,
-            };
+            return self.refuse(Refusal::ChannelAbove2);
         }
         let c = self.channels[channel];
         let loaded = load::load_cycle(c);

@@ -9,6 +9,8 @@ use channel::queries::ChannelCount;
 use refusal::Refusal;
 use time::SystemTicks;
 use time::TimerTicks;
+ghost use mathlib.Core.Path.{_≡_};
+ghost use Rattle.board.specs.Answer.{refusedBy};
 
 pub struct Board {
     // A channel's place here is its number.
@@ -43,4 +45,16 @@ pub enum Answer {
 pub struct Answered {
     pub answer: Answer,
     pub board: Board,
+}
+
+impl Board {
+    // A refused call hands the same board back.
+    pub fn refuse(self, refusal: Refusal) -> Answered
+        ensures { λ r. ⌜ r ≡ refusedBy refusal self ⌝ }
+    {
+        Answered {
+            answer: Answer::Refused(refusal),
+            board: self,
+        }
+    }
 }

@@ -33,10 +33,7 @@ impl Board {
     {
         let board = Board::fresh(model, divisor);
         if divisor == 0 {
-            return Answered {
-                answer: Answer::Refused(Refusal::DivisorZero),
-                board,
-            };
+            return board.refuse(Refusal::DivisorZero);
         }
         Answered {
             answer: Answer::Done,

@@ -45,10 +45,7 @@ impl Board {
         ensures { λ r. ⌜ outcome r [] ≡ isDirty self channel ⌝ }
     {
         if 2 < channel {
-            return Answered {
-                answer: Answer::Refused(Refusal::ChannelAbove2),
-                board: self,
-            };
+            return self.refuse(Refusal::ChannelAbove2);
         }
         let c = self.channels[channel];
         let got = c.is_dirty();

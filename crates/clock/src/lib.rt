@@ -24,10 +24,7 @@ pub fn catch_up(b: Board, ticks: SystemTicks) -> Answered
 {
     let passed = pass(b, ticks);
     match passed {
-        Passed::Refused(refusal) => Answered {
-            answer: Answer::Refused(refusal),
-            board: b,
-        },
+        Passed::Refused(refusal) => b.refuse(refusal),
         Passed::Converted(conversion) => {
             let yielded = conversion.ticks;
             let rest = conversion.remainder;
@@ -49,10 +46,7 @@ pub fn run(b: Board, ticks: SystemTicks) -> Answered
 {
     let passed = pass(b, ticks);
     match passed {
-        Passed::Refused(refusal) => Answered {
-            answer: Answer::Refused(refusal),
-            board: b,
-        },
+        Passed::Refused(refusal) => b.refuse(refusal),
         Passed::Converted(conversion) => {
             let yielded = conversion.ticks;
             let rest = conversion.remainder;

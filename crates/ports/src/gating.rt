@@ -1,6 +1,5 @@
 // A level at a channel's gate.
 use crate::settle;
-use board::Answer;
 use board::Answered;
 use board::Board;
 use refusal::Refusal;
@@ -19,10 +18,7 @@ pub fn set_channel_gate(
     ensures { λ r. ⌜ outcome r (now (events .exit)) ≡ setChannelGate b channel level (now (events .entry)) place ⌝ }
 {
     if 2 < channel {
-        return Answered {
-            answer: Answer::Refused(Refusal::ChannelAbove2),
-            board: b,
-        };
+        return b.refuse(Refusal::ChannelAbove2);
     }
     let c = b.channels[channel];
     let gated = gate::set_gate(c, level);

@@ -30,10 +30,7 @@ fn answering(placed: Placed, old: Board, new: Board) -> Answered
             answer: Answer::Place(place),
             board: new,
         },
-        Placed::Refused(refusal) => Answered {
-            answer: Answer::Refused(refusal),
-            board: old,
-        },
+        Placed::Refused(refusal) => old.refuse(refusal),
     }
 }
 

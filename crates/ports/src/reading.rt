@@ -37,9 +37,6 @@ pub fn read_port(b: Board, port: u16) -> Answered
             answer: Answer::Byte(0),
             board: b,
         },
-        Port::Unknown => Answered {
-            answer: Answer::Refused(Refusal::PortUnknown),
-            board: b,
-        },
+        Port::Unknown => b.refuse(Refusal::PortUnknown),
     }
 }

@@ -3,7 +3,6 @@ use crate::port::Port;
 use crate::port::port_of;
 use crate::settle;
 use crate::untouched;
-use board::Answer;
 use board::Answered;
 use board::Board;
 use channel::ControlWord;
@@ -65,9 +64,6 @@ pub fn write_port(b: Board, port: u16, byte: u8, events: &mut [u8], place: usize
     match known {
         Port::Data(n) => data_write(b, n, byte, events, place),
         Port::Command => control_register_write(b, byte, events, place),
-        Port::Unknown => Answered {
-            answer: Answer::Refused(Refusal::PortUnknown),
-            board: b,
-        },
+        Port::Unknown => b.refuse(Refusal::PortUnknown),
     }
 }

@@ -8,7 +8,7 @@ use Rattle.clock.proofs.catch_up.Tie as tie
 
 returns : tie.Need-returns
 unfolding catchUp
-returns c = simp (sym (c .before .before .before .pass .ensures) ∙ ap passedReply (c .before .passed .given .1))
+returns c = simp (c .refuse .ensures, sym (c .before .before .before .before .pass .ensures) ∙ ap passedReply (c .before .before .passed .given .1))
 
 returns-2 : tie.Need-returns-2
 unfolding catchUp
@@ -20,6 +20,7 @@ catch-up-spec =
     (tie.spec
     (λ c κs. search needs)
     (λ c. search needs)
+    (λ c κs. search needs)
     (λ c. search needs)
     returns
     returns-2)

@@ -8,7 +8,7 @@ use Rattle.clock.proofs.run.Tie as tie
 
 returns : tie.Need-returns
 unfolding run
-returns c = simp (sym (c .before .before .before .pass .ensures) ∙ ap passedReply (c .before .passed .given .1))
+returns c = simp (c .refuse .ensures, sym (c .before .before .before .before .pass .ensures) ∙ ap passedReply (c .before .before .passed .given .1))
 
 returns-2 : tie.Need-returns-2
 unfolding run
@@ -20,6 +20,7 @@ run-spec =
     (tie.spec
     (λ c κs. search needs)
     (λ c. search needs)
+    (λ c κs. search needs)
     (λ c. search needs)
     returns
     returns-2)

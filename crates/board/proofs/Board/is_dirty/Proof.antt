@@ -7,7 +7,7 @@ use Rattle.board.proofs.Board.is_dirty.Tie as tie
 
 returns : tie.Need-returns
 unfolding isDirty
-returns c = simp (lt-ltb _ _ (c .if1 .taken))
+returns c = simp (c .refuse .ensures, lt-ltb _ _ (c .before .if1 .taken))
 
 returns-2 : tie.Need-returns-2
 unfolding isDirty
@@ -17,6 +17,7 @@ pub is-dirty-spec : {M : Type 1} → statement M
 is-dirty-spec =
     tie.close
     (tie.spec
+    (λ c κs. search needs)
     returns
     (λ c. search needs)
     (λ c. search needs)

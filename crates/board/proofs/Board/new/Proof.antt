@@ -7,7 +7,7 @@ use Rattle.board.proofs.Board.new.Tie as tie
 
 returns : tie.Need-returns
 unfolding new
-returns c = simp (eq-eqb _ _ (c .if1 .taken), c .before .fresh .ensures)
+returns c = simp (c .refuse .ensures, eq-eqb _ _ (c .before .if1 .taken), c .before .before .fresh .ensures)
 
 returns-2 : tie.Need-returns-2
 unfolding new
@@ -17,6 +17,7 @@ pub new-spec : {M : Type 1} → statement M
 new-spec =
     tie.close
     (tie.spec
+    (λ c κs. search needs)
     (λ c κs. search needs)
     returns
     returns-2)

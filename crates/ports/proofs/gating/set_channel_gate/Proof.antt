@@ -7,7 +7,7 @@ use Rattle.ports.proofs.gating.set_channel_gate.Tie as tie
 
 returns : tie.Need-returns
 unfolding setChannelGate
-returns c = simp (lt-ltb _ _ (c .if1 .taken))
+returns c = simp (c .refuse .ensures, lt-ltb _ _ (c .before .if1 .taken))
 
 returns-2 : tie.Need-returns-2
 unfolding setChannelGate
@@ -17,6 +17,7 @@ pub set-channel-gate-spec : {M : Type 1} → statement M
 set-channel-gate-spec =
     tie.close
     (tie.spec
+    (λ c κs. search needs)
     returns
     (λ c. search needs)
     (λ c. search needs)

@@ -19,7 +19,7 @@ returns-2 c = simp (sym (c .before .before .port-of .ensures) ∙ c .enum-told .
 
 returns-3 : tie.Need-returns-3
 unfolding readPort
-returns-3 c = simp (sym (c .before .before .port-of .ensures) ∙ c .enum-told2 .given .1)
+returns-3 c = simp (c .refuse .ensures, sym (c .before .before .before .port-of .ensures) ∙ c .before .enum-told2 .given .1)
 
 pub read-port-spec : {M : Type 1} → statement M
 read-port-spec =
@@ -30,6 +30,7 @@ read-port-spec =
     data-read-requires
     (λ c. search needs)
     (λ c. search needs)
+    (λ c κs. search needs)
     returns
     returns-2
     returns-3)

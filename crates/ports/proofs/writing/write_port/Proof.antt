@@ -19,7 +19,7 @@ returns-2 c = simp (c .before .before .control-register-write .ensures, sym (c .
 
 returns-3 : tie.Need-returns-3
 unfolding writePort
-returns-3 c = simp (sym (c .before .before .port-of .ensures) ∙ c .enum-told2 .given .1)
+returns-3 c = simp (c .refuse .ensures, sym (c .before .before .before .port-of .ensures) ∙ c .before .enum-told2 .given .1)
 
 pub write-port-spec : {M : Type 1} → statement M
 write-port-spec =
@@ -31,6 +31,7 @@ write-port-spec =
     (λ c. search needs)
     (λ c κs. search needs)
     (λ c. search needs)
+    (λ c κs. search needs)
     (λ c. search needs)
     returns
     (λ c. search needs)
