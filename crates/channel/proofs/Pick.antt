@@ -14,3 +14,8 @@ pick-same false x = refl
 pub pick-holds : {A : Type 0} (P : A → Type 0) (b : Bool) (x y : A) → P x → P y → P (cond b x y)
 pick-holds P true x y p q = p
 pick-holds P false x y p q = q
+
+-- the same, where each side may use what the test says
+pub pick-knowing : {A : Type 0} (P : A → Type 0) (b : Bool) (x y : A) → (b ≡ true → P x) → (b ≡ false → P y) → P (cond b x y)
+pick-knowing P true x y p q = p refl
+pick-knowing P false x y p q = q refl

@@ -1,19 +1,23 @@
--- What holds of every refusal, of every accepted outcome that changes only channels, and of catch-up and run, holds of every step. Assumes nothing.
-use Prim.Native.Nat.{ℕ, _-_}
+-- What holds of every refusal, of every accepted outcome that changes only channels and keeps the lent bytes' length, and of catch-up and
+-- run, holds of every step. Assumes nothing.
+use Prim.Native.Nat.{ℕ, _-_, _≤_}
 use mathlib.Core.Path.{_≡_, refl}
 use mathlib.Core.Bool.{Bool, true}
 use mathlib.Core.List.{List, []}
+use native.Mathlib.Omega.{arith}
 use lib.Dec.{ltb}
 use lib.ListN.{length}
+use borrow.Author.Tests.{ltb-false}
 use Rattle.refusal.specs.Reply.{accepted}
 use Rattle.channel.specs.declared.Channel.{Channel}
-use Rattle.channel.proofs.Pick.{pick-holds}
+use Rattle.channel.proofs.Pick.{pick-holds, pick-knowing}
 use Rattle.control.specs.declared.Command.{Command}
 use Rattle.control.specs.declared.Command.the-variants.{Nothing, LatchCount, SetMode}
 use Rattle.control.specs.Control.{commandOf}
 use Rattle.event.specs.declared.Event.{Event}
 use Rattle.event.specs.declared.Event.the-variants.{Unchanged, Level}
 use Rattle.event.specs.Event.{Placing, placeDue, placeEvent}
+use Rattle.event.proofs.Written.{event-written}
 use Rattle.board.specs.declared.Board.{Board}
 use Rattle.board.specs.Board.{withChannels}
 use Rattle.board.specs.Outcome.{Outcome, Value, place, refuse, accept, onChannel}
@@ -35,7 +39,7 @@ use Rattle.step.specs.Time.{ticksIn, ifAccepted, taken}
 -- P speaks of the lent bytes, of the system ticks taken in, and of the outcome
 module _ (b : Board) (P : List ℕ → ℕ → Outcome → Type 0)
     (refuses : (events : List ℕ) (number : ℕ) → P events 0 (refuse number b events))
-    (accepts : (events bytes : List ℕ) (value : Value) (channels : List Channel) → ticksIn value ≡ 0
+    (accepts : (events bytes : List ℕ) (value : Value) (channels : List Channel) → ticksIn value ≡ 0 → length bytes ≡ length events
     → P events 0 (record { reply = accepted value; board = withChannels b channels; events = bytes }))
     (times : (given warp : ℕ) (defer : Bool)
     → P [] (ifAccepted (yielding b warp defer (elapsed b given) .reply) (given - b .warp .0)) (yielding b warp defer (elapsed b given)))
@@ -45,26 +49,28 @@ module _ (b : Board) (P : List ℕ → ℕ → Outcome → Type 0)
 
     accepted-on : (n : ℕ) (value : Value) (channels : List Channel) → ticksIn value ≡ 0
         → P [] 0 (onChannel b n [] (accept value (withChannels b channels)))
-    accepted-on n value channels none = on-channel n [] _ (accepts [] [] value channels none)
+    accepted-on n value channels none = on-channel n [] _ (accepts [] [] value channels none refl)
 
     counts-every : (n number : ℕ) → P [] 0 (counts b n number)
     unfolding counts
     counts-every n number =
-        on-channel n [] _ (pick-holds (P [] 0) (ltb 65536 number) (refuse 6 b []) _ (refuses [] 6) (accepts [] [] _ _ refl))
+        on-channel n [] _ (pick-holds (P [] 0) (ltb 65536 number) (refuse 6 b []) _ (refuses [] 6) (accepts [] [] _ _ refl refl))
 
-    event-due : (event : Event) (channels : List Channel) (events : List ℕ) (from : ℕ)
+    event-due : (event : Event) (channels : List Channel) (events : List ℕ) (from : ℕ) → from ≤ length events
         → P events 0 (placedOn b (withChannels b channels) (placeDue event events from))
-    event-due Unchanged channels events from = accepts events events (place from) channels refl
-    event-due (Level n level) channels events from =
-        pick-holds (λ (p : Placing). P events 0 (placedOn b (withChannels b channels) p)) (ltb (length events - from) 2) _ _ (refuses events 8)
-        (accepts events _ _ channels refl)
+    event-due Unchanged channels events from inside = accepts events events (place from) channels refl refl
+    event-due (Level n level) channels events from inside =
+        pick-knowing (λ (p : Placing). P events 0 (placedOn b (withChannels b channels) p)) (ltb (length events - from) 2) _ _ (λ few. refuses events 8)
+        (λ enough.
+        let room : 2 ≤ length events - from = ltb-false _ _ enough in
+        accepts events _ _ channels refl (event-written n level events from (omega arith) .same-length))
 
     event-every : (event : Event) (channels : List Channel) (events : List ℕ) (from : ℕ)
         → P events 0 (placedOn b (withChannels b channels) (placeEvent event events from))
     unfolding placeEvent
     event-every event channels events from =
-        pick-holds (λ (p : Placing). P events 0 (placedOn b (withChannels b channels) p)) (ltb (length events) from) _ _ (refuses events 7)
-        (event-due event channels events from)
+        pick-knowing (λ (p : Placing). P events 0 (placedOn b (withChannels b channels) p)) (ltb (length events) from) _ _ (λ past. refuses events 7)
+        (λ inside. event-due event channels events from (ltb-false _ _ inside))
 
     command-every : (command : Command) (events : List ℕ) (from : ℕ) → P events 0 (controlRegisterWrite b command events from)
     unfolding settle untouched
@@ -83,8 +89,8 @@ module _ (b : Board) (P : List ℕ → ℕ → Outcome → Type 0)
     gate-every n level events from = on-channel n events _ (event-every _ _ events from)
 
     read-every : (port : Port) → P [] 0 (readFrom b port)
-    read-every (Data n) = accepts [] [] _ _ refl
-    read-every CommandPort = accepts [] [] _ (b .channels) refl
+    read-every (Data n) = accepts [] [] _ _ refl refl
+    read-every CommandPort = accepts [] [] _ (b .channels) refl refl
     read-every Unknown = refuses [] 1
 
     pub every-step : (o : Operation) → P (lent o) (taken b o) (step b o)
@@ -96,9 +102,9 @@ module _ (b : Board) (P : List ℕ → ℕ → Outcome → Type 0)
     every-step (LoadCycle n) = accepted-on n _ _ refl
     every-step (CatchUp given) = times given given true
     every-step (Run given) = times given 0 (b .defer)
-    every-step Reset = accepts [] [] _ _ refl
+    every-step Reset = accepts [] [] _ _ refl refl
     every-step (GetOutputState n) = accepted-on n _ (b .channels) refl
     every-step (GetChannelCount n) = accepted-on n _ (b .channels) refl
     every-step (DoesChannelRetrigger n) = accepted-on n _ (b .channels) refl
     every-step (IsDirty n) = accepted-on n _ _ refl
-    every-step GetTimerAccum = accepts [] [] _ (b .channels) refl
+    every-step GetTimerAccum = accepts [] [] _ (b .channels) refl refl

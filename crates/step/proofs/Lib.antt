@@ -6,3 +6,4 @@ pub mod Every
 pub mod Leaves
 pub mod Time
 pub mod Events
+pub mod Lent
