@@ -1,16 +1,20 @@
 -- An answer is known by document 01's number or values for it. Assumes nothing.
-use mathlib.Core.Path.{_≡_, refl, sym, ap, _∙_}
+use Prim.Native.Nat.{ℕ}
+use mathlib.Core.List.{List}
+use mathlib.Core.Path.{_≡_, refl, sym, ap, ap₂, _∙_}
 use Rattle.refusal.specs.Reply.{Reply, refused, accepted}
 use Rattle.refusal.proofs.Numbered.{refusalNumbered, numbered-back}
+use Rattle.board.specs.declared.Board.{Board}
+use Rattle.board.specs.declared.Answered.{Answered}
 use Rattle.board.specs.declared.Answer.{Answer}
 use Rattle.board.specs.declared.Answer.the-variants.{Refused, Done, Place, Byte, Ticks, OutputState, Count, Retriggers, Dirty}
-use Rattle.board.specs.Outcome.{Value, done, place, byte, ticks, outputState, channelCount, retriggers, dirtyMarks, timerAccum}
-use Rattle.board.specs.Answer.{replyOf}
+use Rattle.board.specs.Outcome.{Value, done, newPlace, byte, ticks, outputState, channelCount, retriggers, dirtyMarks, timerAccum, Outcome}
+use Rattle.board.specs.Answer.{replyOf, outcome}
 
 -- `get_timer_accum` answers no enum; its value is given Done here
 abbrev valueAnswer : Value → Answer
 valueAnswer done = Done
-valueAnswer (place p) = Place p
+valueAnswer (newPlace p) = Place p
 valueAnswer (byte x) = Byte x
 valueAnswer (ticks n) = Ticks (record { 0 = n })
 valueAnswer (outputState level) = OutputState level
@@ -37,3 +41,10 @@ answer-back (Dirty dirty counting ticked) = refl
 
 pub answers-apart : (a c : Answer) → replyOf a ≡ replyOf c → a ≡ c
 answers-apart a c e = sym (answer-back a) ∙ ap answerOf e ∙ answer-back c
+
+-- so a contract's equation leaves one answer, one board and one content of the lent bytes
+pub outcomes-apart : (r s : Answered) (before after : List ℕ) → outcome r before ≡ outcome s after → (r ≡ s) × (before ≡ after)
+outcomes-apart r s before after e =
+    let answers : r .answer ≡ s .answer = answers-apart (r .answer) (s .answer) (ap (λ (o : Outcome). o .reply) e) in
+    let boards : r .board ≡ s .board = ap (λ (o : Outcome). o .board) e in
+    (ap₂ (λ (a : Answer) (b : Board). record { answer = a; board = b }) answers boards, ap (λ (o : Outcome). o .events) e)

@@ -8,16 +8,16 @@ use Rattle.board.specs.declared.Board.{Board}
 use Rattle.board.specs.declared.Answer.{Answer}
 use Rattle.board.specs.declared.Answer.the-variants.{Refused, Done, Place, Byte, Ticks, OutputState, Count, Retriggers, Dirty}
 use Rattle.board.specs.declared.Answered.{Answered}
-use Rattle.board.specs.Outcome.{Value, done, place, byte, ticks, outputState, channelCount, retriggers, dirtyMarks, Outcome}
+use Rattle.board.specs.Outcome.{Value, done, newPlace, byte, ticks, outputState, countValue, retriggers, dirtyMarks, Outcome}
 
 abbrev pub replyOf : Answer → Reply Value
 replyOf (Refused refusal) = refused (refusalNumber refusal)
 replyOf Done = accepted done
-replyOf (Place p) = accepted (place p)
+replyOf (Place p) = accepted (newPlace p)
 replyOf (Byte x) = accepted (byte x)
 replyOf (Ticks t) = accepted (ticks (t .0))
 replyOf (OutputState level) = accepted (outputState level)
-replyOf (Count c) = accepted (channelCount (c .«count_register») (c .«counting_element») (c .counting))
+replyOf (Count c) = accepted (countValue c)
 replyOf (Retriggers answer) = accepted (retriggers answer)
 replyOf (Dirty dirty counting ticked) = accepted (dirtyMarks dirty counting ticked)
 

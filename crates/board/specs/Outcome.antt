@@ -4,13 +4,14 @@ use mathlib.Core.Bool.{Bool, cond}
 use mathlib.Core.List.{List, []}
 use lib.Dec.{ltb}
 use Rattle.refusal.specs.Reply.{Reply, refused, accepted}
+use Rattle.channel.specs.declared.queries.ChannelCount.{ChannelCount}
 use Rattle.board.specs.declared.Board.{Board}
 
 -- what an accepted call says
 pub data Value : Type 0 where
   done : Value
   -- "The new place is the old plus 2, or the old if no event."
-  place : ℕ → Value
+  newPlace : ℕ → Value
   -- the byte read
   byte : ℕ → Value
   -- timer ticks yielded
@@ -23,6 +24,9 @@ pub data Value : Type 0 where
   dirtyMarks : Bool → Bool → Bool → Value
   -- the remainder
   timerAccum : ℕ → Value
+
+abbrev pub countValue : ChannelCount → Value
+countValue c = channelCount (c .«count_register») (c .«counting_element») (c .counting)
 
 pub record Outcome : Type 0 where
   pub reply : Reply Value

@@ -1,18 +1,14 @@
 -- Document 01's queries, on a channel of the board: refusal 2 each; and `get_timer_accum`, which is the remainder.
 use Prim.Native.Nat.{ℕ}
 use mathlib.Core.List.{[]}
-use Rattle.channel.specs.declared.queries.ChannelCount.{ChannelCount}
 use Rattle.channel.specs.declared.queries.DirtyAnswer.{DirtyAnswer}
 use Rattle.channel.specs.Queries as channel
 use Rattle.board.specs.declared.Board.{Board}
 use Rattle.board.specs.Board.{channelAt, withChannel}
-use Rattle.board.specs.Outcome.{Outcome, Value, outputState, channelCount, retriggers, dirtyMarks, accept, onChannel}
+use Rattle.board.specs.Outcome.{Outcome, outputState, countValue, retriggers, dirtyMarks, accept, onChannel}
 
 unfoldable pub getOutputState : Board → ℕ → Outcome
 getOutputState b n = onChannel b n [] (accept (outputState (channel.getOutputState (channelAt b n))) b)
-
-abbrev pub countValue : ChannelCount → Value
-countValue c = channelCount (c .«count_register») (c .«counting_element») (c .counting)
 
 unfoldable pub getChannelCount : Board → ℕ → Outcome
 getChannelCount b n = onChannel b n [] (accept (countValue (channel.getChannelCount (channelAt b n))) b)

@@ -1,4 +1,4 @@
-// Three channels behind four ports, by value: a call takes a board and hands one back.
+// The board, by value: a call takes one and hands one back. Its ports and gates are the crate ports', its time the crate clock's.
 pub mod counting;
 pub mod making;
 pub mod queries;
@@ -20,13 +20,13 @@ pub struct Board {
     pub divisor: u32,
     // System ticks that have not made up a timer tick yet.
     pub remainder: SystemTicks,
-    // System ticks that a catch-up has already taken of the next run.
+    // The ticks that the last catch-up was given, which the next run must not take again; 0 after a run.
     pub warp: SystemTicks,
-    // Whether the next complete load waits one load cycle longer.
+    // Set by a catch-up and never cleared: a complete load that enters the waiting state waits one load cycle longer.
     pub defer: bool,
 }
 
-// What a call answers. Each call has one case of its own besides the refusal.
+// What a call answers: a refusal, or its one other case.
 pub enum Answer {
     Refused(Refusal),
     // Counts, load cycle, making a board.

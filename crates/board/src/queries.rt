@@ -1,4 +1,4 @@
-// What a host can ask of the board. Refusal 2, but for the remainder.
+// What a host can ask of the board: of a channel, with refusal 2, and of the remainder.
 use crate::Answer;
 use crate::Answered;
 use crate::Board;

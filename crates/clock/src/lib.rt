@@ -18,7 +18,7 @@ fn pass(b: Board, ticks: SystemTicks) -> Passed
     time::ticks_from_time(ticks, warp, remainder, b.divisor)
 }
 
-// Before a write: the chip is brought up to the processor, and the ticks taken so stand as the warp until the run. Refusals 3, 4, 5.
+// In the middle of an instruction: the chip is brought up to the processor, and the ticks given stand as the warp until the run. Refusals 3, 4, 5.
 pub fn catch_up(b: Board, ticks: SystemTicks) -> Answered
     ensures { λ r. ⌜ outcome r [] ≡ catchUp b (ticks .0) ⌝ }
 {
@@ -40,7 +40,7 @@ pub fn catch_up(b: Board, ticks: SystemTicks) -> Answered
     }
 }
 
-// After an instruction: what the warp already took is not taken twice, and the warp ends. Refusals 3, 4, 5.
+// At the end of an instruction: what a catch-up has already taken of it is not taken twice, and the warp ends. Refusals 3, 4, 5.
 pub fn run(b: Board, ticks: SystemTicks) -> Answered
     ensures { λ r. ⌜ outcome r [] ≡ run b (ticks .0) ⌝ }
 {

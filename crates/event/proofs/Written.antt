@@ -25,6 +25,7 @@ stores-written : (channel : ℕ) (level : Bool) (bytes : List ℕ) (place : ℕ)
 stores-written channel level bytes place h =
     let first : List ℕ = set bytes place channel in
     record {
+      room = h;
       same-length = simp (length-set, length-set);
       channel-byte = simp (getD-set-other first (suc place) place (flagNumber level) 0 (λ e. absurd (omega arith))) (getD-set-same bytes place channel 0 (omega arith));
       level-byte = simp add-one (getD-set-same first (suc place) (flagNumber level) 0 (simp length-set (omega arith)));

@@ -9,7 +9,7 @@ ghost use Rattle.event.specs.Event.{sameLevel, eventOf, firstTwo, placin
 pub enum Event {
     // The output stays where it is.
     Unchanged,
-    // The channel's place on the board, and its new level.
+    // The channel's place on the board, as the caller gives it, and its new level.
     Level(u8, bool),
 }
 

@@ -9,4 +9,4 @@ use Rattle.board.specs.Outcome.{Outcome, onChannel}
 use Rattle.ports.specs.Settle.{settle}
 
 unfoldable pub setChannelGate : Board → ℕ → Bool → List ℕ → ℕ → Outcome
-setChannelGate b n level events p = onChannel b n events (settle b n (setGate (channelAt b n) level) events p)
+setChannelGate b n level events place = onChannel b n events (settle b n (setGate (channelAt b n) level) events place)

@@ -1,4 +1,4 @@
--- Document 01, "Output events": a call that leaves another channel at a place of the board, and the event of its output.
+-- Document 01, "Output events": a call that leaves a new record of one channel, and the event of its output.
 use Prim.Native.Nat.{ℕ}
 use mathlib.Core.List.{List}
 use Rattle.refusal.specs.Reply.{Reply, refused, accepted}
@@ -8,16 +8,16 @@ use Rattle.event.specs.declared.Event.the-variants.{Unchanged}
 use Rattle.event.specs.Event.{Placing, eventOf, placeEvent}
 use Rattle.board.specs.declared.Board.{Board}
 use Rattle.board.specs.Board.{channelAt, withChannel}
-use Rattle.board.specs.Outcome.{Outcome, Value, place}
+use Rattle.board.specs.Outcome.{Outcome, Value, newPlace}
 
 -- "a change of output level": the level after the call against the level before
 abbrev pub levelEvent : ℕ → Channel → Channel → Event
 levelEvent n old new = eventOf n (old .pins .output) (new .pins .output)
 
 -- the event's refusal or its new place is the call's
-abbrev pub placeReply : Reply ℕ → Reply Value
-placeReply (refused number) = refused number
-placeReply (accepted p) = accepted (place p)
+abbrev pub callReply : Reply ℕ → Reply Value
+callReply (refused number) = refused number
+callReply (accepted p) = accepted (newPlace p)
 
 -- "Each returns its number and the same board"
 abbrev pub boardAfter : Reply ℕ → Board → Board → Board
@@ -26,11 +26,11 @@ boardAfter (accepted p) old new = new
 
 abbrev pub placedOn : Board → Board → Placing → Outcome
 placedOn old new placing =
-    record { reply = placeReply (placing .reply); board = boardAfter (placing .reply) old new; events = placing .bytes }
+    record { reply = callReply (placing .reply); board = boardAfter (placing .reply) old new; events = placing .bytes }
 
 unfoldable pub settle : Board → ℕ → Channel → List ℕ → ℕ → Outcome
-settle b n c events p = placedOn b (withChannel b n c) (placeEvent (levelEvent n (channelAt b n) c) events p)
+settle b n c events place = placedOn b (withChannel b n c) (placeEvent (levelEvent n (channelAt b n) c) events place)
 
 -- a call that changes no channel: refusal 7 is given where the place is past the end, all the same
 unfoldable pub untouched : Board → List ℕ → ℕ → Outcome
-untouched b events p = placedOn b b (placeEvent Unchanged events p)
+untouched b events place = placedOn b b (placeEvent Unchanged events place)

@@ -1,6 +1,6 @@
 // Ports and gates: the calls of the board that may change an output, and the read.
 //
-// Here stands what the first share: a channel put back on its board, with the event of its output where there is one.
+// What those calls share stands here: a channel's new record is put back at its place, and the event of its output is written where there is one.
 mod gating;
 pub mod port;
 mod reading;
@@ -19,11 +19,11 @@ ghost use mathlib.Core.Path.{_≡_};
 ghost use Rattle.board.specs.Answer.{replyOf, outcome};
 ghost use Prim.Native.Nat.{_<_};
 ghost use Rattle.event.specs.Event.{placedReply};
-ghost use Rattle.ports.specs.Settle.{levelEvent, placeReply, boardAfter, settle, untouched};
+ghost use Rattle.ports.specs.Settle.{levelEvent, callReply, boardAfter, settle, untouched};
 
 // The new board where the event was placed, the old one where it was refused.
 fn answering(placed: Placed, old: Board, new: Board) -> Answered
-    ensures { λ r. ⌜ (replyOf (r .answer) ≡ placeReply (placedReply placed)) × (r .board ≡ boardAfter (placedReply placed) old new) ⌝ }
+    ensures { λ r. ⌜ (replyOf (r .answer) ≡ callReply (placedReply placed)) × (r .board ≡ boardAfter (placedReply placed) old new) ⌝ }
 {
     match placed {
         Placed::At(place) => Answered {
@@ -43,7 +43,7 @@ fn level_event(n: usize, old: Channel, new: Channel) -> Event
     event::event_of(n as u8, was.output, is.output)
 }
 
-// A call that leaves another channel at place n. Refusals 7 and 8.
+// A call that leaves the record c at place n. Refusals 7 and 8.
 fn settle(b: Board, n: usize, c: Channel, events: &mut [u8], place: usize) -> Answered
     requires { ⌜ n < 3 ⌝ }
     ensures { λ r. ⌜ outcome r (now (events .exit)) ≡ settle b n c (now (events .entry)) place ⌝ }

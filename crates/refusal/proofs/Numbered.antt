@@ -7,7 +7,7 @@ use Rattle.refusal.specs.declared.Refusal.{Refusal}
 use Rattle.refusal.specs.declared.Refusal.the-variants.{PortUnknown, ChannelAbove2, DivisorZero, TicksBelowWarp, RemainderTooLarge, TooManyCounts, PlacePastEnd, NoRoom}
 use Rattle.refusal.specs.Refusal.{refusalNumber}
 
--- 0 stands for none
+-- no refusal has the number 0, or one above 8; some refusal stands there too
 abbrev pub refusalNumbered : ℕ → Refusal
 refusalNumbered number =
     getD

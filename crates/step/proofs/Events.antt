@@ -23,12 +23,12 @@ use Rattle.event.specs.Written.{Written}
 use Rattle.event.proofs.Written.{event-written}
 use Rattle.board.specs.declared.Board.{Board}
 use Rattle.board.specs.Board.{channelAt, withChannel}
-use Rattle.board.specs.Outcome.{Outcome, Value, done, place, byte, ticks, outputState, channelCount, retriggers, dirtyMarks, timerAccum, refuse, onChannel}
+use Rattle.board.specs.Outcome.{Outcome, Value, done, newPlace, byte, ticks, outputState, channelCount, retriggers, dirtyMarks, timerAccum, refuse, onChannel}
 use Rattle.ports.specs.declared.port.Port.{Port}
 use Rattle.ports.specs.declared.port.Port.the-variants.{Data, Command as CommandPort, Unknown}
 use Rattle.ports.specs.Port.{portOf}
 use Rattle.ports.proofs.Below.{data-below}
-use Rattle.ports.specs.Settle.{placeReply, boardAfter, placedOn, settle, untouched}
+use Rattle.ports.specs.Settle.{callReply, boardAfter, placedOn, settle, untouched}
 use Rattle.ports.specs.Gates.{setChannelGate}
 use Rattle.ports.specs.Writes.{controlRegisterWrite, writeTo, writePort}
 use Rattle.gate.specs.Gate.{setGate}
@@ -37,7 +37,7 @@ use Rattle.step.specs.Events.{levelAt, NoEvent, OneEvent, Told}
 abbrev placeIn : Reply Value → ℕ
 placeIn (refused number) = 0
 placeIn (accepted done) = 0
-placeIn (accepted (place p)) = p
+placeIn (accepted (newPlace p)) = p
 placeIn (accepted (byte x)) = 0
 placeIn (accepted (ticks n)) = 0
 placeIn (accepted (outputState level)) = 0
@@ -55,31 +55,31 @@ not-accepted k value e = subst Accepts (sym e) tt
 
 -- the event writer's part: the new place, the bytes, and the new board taken
 abbrev Placed : Event → List ℕ → ℕ → ℕ → Placing → Type 0
-Placed Unchanged events from new placing = (new ≡ from) × (placing .bytes ≡ events) × ((b c : Board) → boardAfter (placing .reply) b c ≡ c)
-Placed (Level n level) events from new placing =
-    (new ≡ from + 2) × Written events (placing .bytes) from n level × ((b c : Board) → boardAfter (placing .reply) b c ≡ c)
+Placed Unchanged events place new placing = (new ≡ place) × (placing .bytes ≡ events) × ((b c : Board) → boardAfter (placing .reply) b c ≡ c)
+Placed (Level n level) events place new placing =
+    (new ≡ place + 2) × Written events (placing .bytes) place n level × ((b c : Board) → boardAfter (placing .reply) b c ≡ c)
 
-module _ (events : List ℕ) (from new : ℕ) where
-  unchanged-placed : (past : Bool) → let placing : Placing = cond past (record { reply = refused 7; bytes = events }) (record { reply = accepted from; bytes = events }) in
-      placeReply (placing .reply) ≡ accepted (place new) → Placed Unchanged events from new placing
-  unchanged-placed true e = absurd (not-accepted 7 (place new) e)
+module _ (events : List ℕ) (place new : ℕ) where
+  unchanged-placed : (past : Bool) → let placing : Placing = cond past (record { reply = refused 7; bytes = events }) (record { reply = accepted place; bytes = events }) in
+      callReply (placing .reply) ≡ accepted (newPlace new) → Placed Unchanged events place new placing
+  unchanged-placed true e = absurd (not-accepted 7 (newPlace new) e)
   unchanged-placed false e = (sym (ap placeIn e), refl, λ b c. refl)
 
-  level-placed : (n : ℕ) (level past short : Bool) → ltb (length events) from ≡ past → ltb (length events - from) 2 ≡ short
+  level-placed : (n : ℕ) (level past short : Bool) → ltb (length events) place ≡ past → ltb (length events - place) 2 ≡ short
       → let placing : Placing = cond past (record { reply = refused 7; bytes = events })
-      (cond short (record { reply = refused 8; bytes = events }) (record { reply = accepted (from + 2); bytes = eventAt n level events from })) in
-      placeReply (placing .reply) ≡ accepted (place new) → Placed (Level n level) events from new placing
-  level-placed n level true short p s e = absurd (not-accepted 7 (place new) e)
-  level-placed n level false true p s e = absurd (not-accepted 8 (place new) e)
+      (cond short (record { reply = refused 8; bytes = events }) (record { reply = accepted (place + 2); bytes = eventAt n level events place })) in
+      callReply (placing .reply) ≡ accepted (newPlace new) → Placed (Level n level) events place new placing
+  level-placed n level true short p s e = absurd (not-accepted 7 (newPlace new) e)
+  level-placed n level false true p s e = absurd (not-accepted 8 (newPlace new) e)
   level-placed n level false false p s e =
-      let inside : from ≤ length events = ltb-false _ _ p in
-      let room : 2 ≤ length events - from = ltb-false _ _ s in
-      (sym (ap placeIn e), event-written n level events from (omega arith), λ b c. refl)
+      let inside : place ≤ length events = ltb-false _ _ p in
+      let room : 2 ≤ length events - place = ltb-false _ _ s in
+      (sym (ap placeIn e), event-written n level events place (omega arith), λ b c. refl)
 
-  placed : (event : Event) → placeReply (placeEvent event events from .reply) ≡ accepted (place new) → Placed event events from new (placeEvent event events from)
+  placed : (event : Event) → callReply (placeEvent event events place .reply) ≡ accepted (newPlace new) → Placed event events place new (placeEvent event events place)
   unfolding placeEvent
-  placed Unchanged e = unchanged-placed (ltb (length events) from) e
-  placed (Level n level) e = level-placed n level (ltb (length events) from) (ltb (length events - from) 2) refl refl e
+  placed Unchanged e = unchanged-placed (ltb (length events) place) e
+  placed (Level n level) e = level-placed n level (ltb (length events) place) (ltb (length events - place) 2) refl refl e
 
 -- a channel put at a place of the board: its level there, and the levels elsewhere
 module _ (b : Board) (three : length (b .channels) ≡ 3) (n : ℕ) (on : n < 3) (c : Channel) where
@@ -96,80 +96,80 @@ module _ (b : Board) (three : length (b .channels) ≡ 3) (n : ℕ) (on : n < 3)
       go true e = subst (λ k. levelAt (withChannel b n c) k ≡ levelAt b k) (sym (eqb-true m n e)) (level-there ∙ same)
       go false e = level-elsewhere m (eqb-false m n e)
 
-  module _ (events : List ℕ) (from new : ℕ) where
+  module _ (events : List ℕ) (place new : ℕ) where
     abbrev after : Event → Outcome
-    after event = placedOn b (withChannel b n c) (placeEvent event events from)
+    after event = placedOn b (withChannel b n c) (placeEvent event events place)
 
-    silent : c .pins .output ≡ levelAt b n → after Unchanged .reply ≡ accepted (place new) → NoEvent b events from (after Unchanged) new
+    silent : c .pins .output ≡ levelAt b n → after Unchanged .reply ≡ accepted (newPlace new) → NoEvent b events place (after Unchanged) new
     silent same e =
-        let p = placed events from new Unchanged e in
+        let p = placed events place new Unchanged e in
         record {
           same-place = p .0;
           same-bytes = p .1;
           same-levels = λ m. ap (λ (x : Board). levelAt x m) (p .2 b (withChannel b n c)) ∙ all-stand same m;
         }
 
-    told : (level : Bool) → c .pins .output ≡ level → (levelAt b n ≡ level → ⊥) → after (Level n level) .reply ≡ accepted (place new)
-        → OneEvent b events from (after (Level n level)) new
+    told : (level : Bool) → c .pins .output ≡ level → (levelAt b n ≡ level → ⊥) → after (Level n level) .reply ≡ accepted (newPlace new)
+        → OneEvent b events place (after (Level n level)) new
     told level is differs e =
-        let p = placed events from new (Level n level) e in
+        let p = placed events place new (Level n level) e in
         let stands : (m : ℕ) → levelAt (after (Level n level) .board) m ≡ levelAt (withChannel b n c) m = λ m. ap (λ (x : Board). levelAt x m) (p .2 b (withChannel b n c)) in
         let now : levelAt (after (Level n level) .board) n ≡ level = stands n ∙ level-there ∙ is in
         record {
           channel = n;
           on-board = on;
           next-place = p .0;
-          written = subst (λ l. Written events (after (Level n level) .events) from n l) (sym now) (p .1);
+          written = subst (λ l. Written events (after (Level n level) .events) place n l) (sym now) (p .1);
           changed = λ same. differs (same ∙ now);
           others-stand = λ m other. stands m ∙ level-elsewhere m other;
         }
 
-    by-levels : (was is : Bool) → levelAt b n ≡ was → c .pins .output ≡ is → after (eventOf n was is) .reply ≡ accepted (place new)
-        → Told b events from (after (eventOf n was is)) new
+    by-levels : (was is : Bool) → levelAt b n ≡ was → c .pins .output ≡ is → after (eventOf n was is) .reply ≡ accepted (newPlace new)
+        → Told b events place (after (eventOf n was is)) new
     by-levels true true w i e = inl (silent (i ∙ sym w) e)
     by-levels true false w i e = inr (told false i (λ same. true≢false (sym w ∙ same)) e)
     by-levels false true w i e = inr (told true i (λ same. false≢true (sym w ∙ same)) e)
     by-levels false false w i e = inl (silent (i ∙ sym w) e)
 
-    settle-told : settle b n c events from .reply ≡ accepted (place new) → Told b events from (settle b n c events from) new
+    settle-told : settle b n c events place .reply ≡ accepted (newPlace new) → Told b events place (settle b n c events place) new
     unfolding settle
     settle-told e = by-levels (levelAt b n) (c .pins .output) refl refl e
 
 -- a board's three channels, an event buffer and a place, and the new place that the call answers
-module _ (b : Board) (three : length (b .channels) ≡ 3) (events : List ℕ) (from new : ℕ) where
-  untouched-told : untouched b events from .reply ≡ accepted (place new) → Told b events from (untouched b events from) new
+module _ (b : Board) (three : length (b .channels) ≡ 3) (events : List ℕ) (place new : ℕ) where
+  untouched-told : untouched b events place .reply ≡ accepted (newPlace new) → Told b events place (untouched b events place) new
   unfolding untouched
   untouched-told e =
-      let p = placed events from new Unchanged e in
+      let p = placed events place new Unchanged e in
       inl (record { same-place = p .0; same-bytes = p .1; same-levels = λ m. ap (λ (x : Board). levelAt x m) (p .2 b b) })
 
-  command-told : (x : ℕ) → x < 256 → (command : Command) → commandOf x ≡ command → controlRegisterWrite b command events from .reply ≡ accepted (place new)
-      → Told b events from (controlRegisterWrite b command events from) new
+  command-told : (x : ℕ) → x < 256 → (command : Command) → commandOf x ≡ command → controlRegisterWrite b command events place .reply ≡ accepted (newPlace new)
+      → Told b events place (controlRegisterWrite b command events place) new
   command-told x small Nothing is e = untouched-told e
-  command-told x small (LatchCount n) is e = settle-told b three n (named-below x small (LatchCount n) is) _ events from new e
-  command-told x small (SetMode n word) is e = settle-told b three n (named-below x small (SetMode n word) is) _ events from new e
+  command-told x small (LatchCount n) is e = settle-told b three n (named-below x small (LatchCount n) is) _ events place new e
+  command-told x small (SetMode n word) is e = settle-told b three n (named-below x small (SetMode n word) is) _ events place new e
 
-  port-told : (number x : ℕ) → x < 256 → (port : Port) → portOf number ≡ port → writeTo b port x events from .reply ≡ accepted (place new)
-      → Told b events from (writeTo b port x events from) new
-  port-told number x small (Data n) is e = settle-told b three n (data-below number n is) _ events from new e
+  port-told : (number x : ℕ) → x < 256 → (port : Port) → portOf number ≡ port → writeTo b port x events place .reply ≡ accepted (newPlace new)
+      → Told b events place (writeTo b port x events place) new
+  port-told number x small (Data n) is e = settle-told b three n (data-below number n is) _ events place new e
   port-told number x small CommandPort is e = command-told x small (commandOf x) refl e
-  port-told number x small Unknown is e = absurd (not-accepted 1 (place new) e)
+  port-told number x small Unknown is e = absurd (not-accepted 1 (newPlace new) e)
 
-  pub write-told : (port x : ℕ) → x < 256 → writePort b port x events from .reply ≡ accepted (place new)
-      → Told b events from (writePort b port x events from) new
+  pub write-told : (port x : ℕ) → x < 256 → writePort b port x events place .reply ≡ accepted (newPlace new)
+      → Told b events place (writePort b port x events place) new
   unfolding writePort
   write-told port x small e = port-told port x small (portOf port) refl e
 
-  pub gate-told : (n : ℕ) (level : Bool) → setChannelGate b n level events from .reply ≡ accepted (place new)
-      → Told b events from (setChannelGate b n level events from) new
+  pub gate-told : (n : ℕ) (level : Bool) → setChannelGate b n level events place .reply ≡ accepted (newPlace new)
+      → Told b events place (setChannelGate b n level events place) new
   unfolding setChannelGate
   gate-told n level e = go (ltb 2 n) refl e
     where
       settled : Outcome
-      settled = settle b n (setGate (channelAt b n) level) events from
+      settled = settle b n (setGate (channelAt b n) level) events place
 
-      go : (t : Bool) → ltb 2 n ≡ t → cond t (refuse 2 b events) settled .reply ≡ accepted (place new) → Told b events from (cond t (refuse 2 b events) settled) new
-      go true above e = absurd (not-accepted 2 (place new) e)
+      go : (t : Bool) → ltb 2 n ≡ t → cond t (refuse 2 b events) settled .reply ≡ accepted (newPlace new) → Told b events place (cond t (refuse 2 b events) settled) new
+      go true above e = absurd (not-accepted 2 (newPlace new) e)
       go false above e =
           let h : n ≤ 2 = ltb-false 2 n above in
-          settle-told b three n (omega arith) (setGate (channelAt b n) level) events from new e
+          settle-told b three n (omega arith) (setGate (channelAt b n) level) events place new e

@@ -1,12 +1,12 @@
--- What holds of every refusal, of every accepted outcome that changes only channels and keeps the lent bytes' length, and of catch-up and
--- run, holds of every step. Assumes nothing.
+-- What holds of every refusal, of every accepted outcome that changes only channels and keeps their number and the lent bytes' length, and of
+-- catch-up and run, holds of every step. Assumes nothing.
 use Prim.Native.Nat.{ℕ, _-_, _≤_}
-use mathlib.Core.Path.{_≡_, refl}
+use mathlib.Core.Path.{_≡_, refl, _∙_}
 use mathlib.Core.Bool.{Bool, true}
 use mathlib.Core.List.{List, []}
 use native.Mathlib.Omega.{arith}
 use lib.Dec.{ltb}
-use lib.ListN.{length}
+use lib.ListN.{length, set, length-set}
 use borrow.Author.Tests.{ltb-false}
 use Rattle.refusal.specs.Reply.{accepted}
 use Rattle.channel.specs.declared.Channel.{Channel}
@@ -20,7 +20,7 @@ use Rattle.event.specs.Event.{Placing, placeDue, placeEvent}
 use Rattle.event.proofs.Written.{event-written}
 use Rattle.board.specs.declared.Board.{Board}
 use Rattle.board.specs.Board.{withChannels}
-use Rattle.board.specs.Outcome.{Outcome, Value, place, refuse, accept, onChannel}
+use Rattle.board.specs.Outcome.{Outcome, Value, newPlace, refuse, accept, onChannel}
 use Rattle.board.specs.Making.{reset}
 use Rattle.board.specs.Counting.{counts, loadCycle}
 use Rattle.board.specs.Queries.{getOutputState, getChannelCount, doesChannelRetrigger, isDirty}
@@ -40,6 +40,7 @@ use Rattle.step.specs.Time.{ticksIn, ifAccepted, taken}
 module _ (b : Board) (P : List ℕ → ℕ → Outcome → Type 0)
     (refuses : (events : List ℕ) (number : ℕ) → P events 0 (refuse number b events))
     (accepts : (events bytes : List ℕ) (value : Value) (channels : List Channel) → ticksIn value ≡ 0 → length bytes ≡ length events
+    → (length (b .channels) ≡ 3 → length channels ≡ 3)
     → P events 0 (record { reply = accepted value; board = withChannels b channels; events = bytes }))
     (times : (given warp : ℕ) (defer : Bool)
     → P [] (ifAccepted (yielding b warp defer (elapsed b given) .reply) (given - b .warp .0)) (yielding b warp defer (elapsed b given)))
@@ -47,64 +48,67 @@ module _ (b : Board) (P : List ℕ → ℕ → Outcome → Type 0)
     on-channel : (n : ℕ) (events : List ℕ) (outcome : Outcome) → P events 0 outcome → P events 0 (onChannel b n events outcome)
     on-channel n events outcome = pick-holds (P events 0) (ltb 2 n) (refuse 2 b events) outcome (refuses events 2)
 
-    accepted-on : (n : ℕ) (value : Value) (channels : List Channel) → ticksIn value ≡ 0
+    put-three : (n : ℕ) (c : Channel) → length (b .channels) ≡ 3 → length (set (b .channels) n c) ≡ 3
+    put-three n c three = length-set (b .channels) n c ∙ three
+
+    accepted-on : (n : ℕ) (value : Value) (channels : List Channel) → ticksIn value ≡ 0 → (length (b .channels) ≡ 3 → length channels ≡ 3)
         → P [] 0 (onChannel b n [] (accept value (withChannels b channels)))
-    accepted-on n value channels none = on-channel n [] _ (accepts [] [] value channels none refl)
+    accepted-on n value channels none three = on-channel n [] _ (accepts [] [] value channels none refl three)
 
     counts-every : (n number : ℕ) → P [] 0 (counts b n number)
     unfolding counts
     counts-every n number =
-        on-channel n [] _ (pick-holds (P [] 0) (ltb 65536 number) (refuse 6 b []) _ (refuses [] 6) (accepts [] [] _ _ refl refl))
+        on-channel n [] _ (pick-holds (P [] 0) (ltb 65536 number) (refuse 6 b []) _ (refuses [] 6) (accepts [] [] _ _ refl refl (put-three n _)))
 
-    event-due : (event : Event) (channels : List Channel) (events : List ℕ) (from : ℕ) → from ≤ length events
-        → P events 0 (placedOn b (withChannels b channels) (placeDue event events from))
-    event-due Unchanged channels events from inside = accepts events events (place from) channels refl refl
-    event-due (Level n level) channels events from inside =
-        pick-knowing (λ (p : Placing). P events 0 (placedOn b (withChannels b channels) p)) (ltb (length events - from) 2) _ _ (λ few. refuses events 8)
+    event-due : (event : Event) (channels : List Channel) (events : List ℕ) (place : ℕ) → (length (b .channels) ≡ 3 → length channels ≡ 3)
+        → place ≤ length events → P events 0 (placedOn b (withChannels b channels) (placeDue event events place))
+    event-due Unchanged channels events place three inside = accepts events events (newPlace place) channels refl refl three
+    event-due (Level n level) channels events place three inside =
+        pick-knowing (λ (p : Placing). P events 0 (placedOn b (withChannels b channels) p)) (ltb (length events - place) 2) _ _ (λ few. refuses events 8)
         (λ enough.
-        let room : 2 ≤ length events - from = ltb-false _ _ enough in
-        accepts events _ _ channels refl (event-written n level events from (omega arith) .same-length))
+        let room : 2 ≤ length events - place = ltb-false _ _ enough in
+        accepts events _ _ channels refl (event-written n level events place (omega arith) .same-length) three)
 
-    event-every : (event : Event) (channels : List Channel) (events : List ℕ) (from : ℕ)
-        → P events 0 (placedOn b (withChannels b channels) (placeEvent event events from))
+    event-every : (event : Event) (channels : List Channel) (events : List ℕ) (place : ℕ) → (length (b .channels) ≡ 3 → length channels ≡ 3)
+        → P events 0 (placedOn b (withChannels b channels) (placeEvent event events place))
     unfolding placeEvent
-    event-every event channels events from =
-        pick-knowing (λ (p : Placing). P events 0 (placedOn b (withChannels b channels) p)) (ltb (length events) from) _ _ (λ past. refuses events 7)
-        (λ inside. event-due event channels events from (ltb-false _ _ inside))
+    event-every event channels events place three =
+        pick-knowing (λ (p : Placing). P events 0 (placedOn b (withChannels b channels) p)) (ltb (length events) place) _ _ (λ past. refuses events 7)
+        (λ inside. event-due event channels events place three (ltb-false _ _ inside))
 
-    command-every : (command : Command) (events : List ℕ) (from : ℕ) → P events 0 (controlRegisterWrite b command events from)
+    command-every : (command : Command) (events : List ℕ) (place : ℕ) → P events 0 (controlRegisterWrite b command events place)
     unfolding settle untouched
-    command-every Nothing events from = event-every _ (b .channels) events from
-    command-every (LatchCount n) events from = event-every _ _ events from
-    command-every (SetMode n word) events from = event-every _ _ events from
+    command-every Nothing events place = event-every _ (b .channels) events place (λ three. three)
+    command-every (LatchCount n) events place = event-every _ _ events place (put-three n _)
+    command-every (SetMode n word) events place = event-every _ _ events place (put-three n _)
 
-    write-every : (port : Port) (byte : ℕ) (events : List ℕ) (from : ℕ) → P events 0 (writeTo b port byte events from)
+    write-every : (port : Port) (byte : ℕ) (events : List ℕ) (place : ℕ) → P events 0 (writeTo b port byte events place)
     unfolding settle
-    write-every (Data n) byte events from = event-every _ _ events from
-    write-every CommandPort byte events from = command-every (commandOf byte) events from
-    write-every Unknown byte events from = refuses events 1
+    write-every (Data n) byte events place = event-every _ _ events place (put-three n _)
+    write-every CommandPort byte events place = command-every (commandOf byte) events place
+    write-every Unknown byte events place = refuses events 1
 
-    gate-every : (n : ℕ) (level : Bool) (events : List ℕ) (from : ℕ) → P events 0 (setChannelGate b n level events from)
+    gate-every : (n : ℕ) (level : Bool) (events : List ℕ) (place : ℕ) → P events 0 (setChannelGate b n level events place)
     unfolding setChannelGate settle
-    gate-every n level events from = on-channel n events _ (event-every _ _ events from)
+    gate-every n level events place = on-channel n events _ (event-every _ _ events place (put-three n _))
 
     read-every : (port : Port) → P [] 0 (readFrom b port)
-    read-every (Data n) = accepts [] [] _ _ refl refl
-    read-every CommandPort = accepts [] [] _ (b .channels) refl refl
+    read-every (Data n) = accepts [] [] _ _ refl refl (put-three n _)
+    read-every CommandPort = accepts [] [] _ (b .channels) refl refl (λ three. three)
     read-every Unknown = refuses [] 1
 
     pub every-step : (o : Operation) → P (lent o) (taken b o) (step b o)
     unfolding reset writePort readPort loadCycle catchUp run getOutputState getChannelCount doesChannelRetrigger isDirty
-    every-step (WritePort port byte events from) = write-every (portOf port) byte events from
+    every-step (WritePort port byte events place) = write-every (portOf port) byte events place
     every-step (ReadPort port) = read-every (portOf port)
-    every-step (SetChannelGate n level events from) = gate-every n level events from
+    every-step (SetChannelGate n level events place) = gate-every n level events place
     every-step (Counts n number) = counts-every n number
-    every-step (LoadCycle n) = accepted-on n _ _ refl
+    every-step (LoadCycle n) = accepted-on n _ _ refl (put-three n _)
     every-step (CatchUp given) = times given given true
     every-step (Run given) = times given 0 (b .defer)
-    every-step Reset = accepts [] [] _ _ refl refl
-    every-step (GetOutputState n) = accepted-on n _ (b .channels) refl
-    every-step (GetChannelCount n) = accepted-on n _ (b .channels) refl
-    every-step (DoesChannelRetrigger n) = accepted-on n _ (b .channels) refl
-    every-step (IsDirty n) = accepted-on n _ _ refl
-    every-step GetTimerAccum = accepts [] [] _ (b .channels) refl refl
+    every-step Reset = accepts [] [] _ _ refl refl (λ three. refl)
+    every-step (GetOutputState n) = accepted-on n _ (b .channels) refl (λ three. three)
+    every-step (GetChannelCount n) = accepted-on n _ (b .channels) refl (λ three. three)
+    every-step (DoesChannelRetrigger n) = accepted-on n _ (b .channels) refl (λ three. three)
+    every-step (IsDirty n) = accepted-on n _ _ refl (put-three n _)
+    every-step GetTimerAccum = accepts [] [] _ (b .channels) refl refl (λ three. three)

@@ -24,6 +24,6 @@ pub refused-leaves : (b : Board) (o : Operation) (k : ℕ) → step b o .reply �
 refused-leaves b o =
     every-step b (λ events ticks outcome. Leaves b events outcome)
     (λ events number k e. (refl, refl))
-    (λ events bytes value channels none fits k e. absurd (not-refused value k e))
+    (λ events bytes value channels none fits three k e. absurd (not-refused value k e))
     (λ given warp defer. time-leaves b warp defer (elapsed b given))
     o

@@ -1,4 +1,4 @@
--- Only lent bytes are written: a call that lends none leaves none, and no call lengthens or shortens what it is lent. Assumes nothing.
+-- No call lengthens or shortens the bytes that it is lent, and one that is lent none leaves none. Assumes nothing.
 use Prim.Native.Nat.{ℕ}
 use mathlib.Core.Path.{_≡_, refl}
 use mathlib.Core.Bool.{Bool}
@@ -20,6 +20,6 @@ pub lent-length : (b : Board) (o : Operation) → length (step b o .events) ≡ 
 lent-length b o =
     every-step b (λ events ticks outcome. length (outcome .events) ≡ length events)
     (λ events number. refl)
-    (λ events bytes value channels none fits. fits)
+    (λ events bytes value channels none fits three. fits)
     (λ given warp defer. time-lends-none b warp defer (elapsed b given))
     o

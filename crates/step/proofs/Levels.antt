@@ -21,8 +21,8 @@ use Rattle.latch.specs.Latching.{latchCount}
 use Rattle.load.specs.Finalize.{completeLoad, enterAfter, finalizeLoad}
 use Rattle.load.specs.Write.{putRegister, writeAt, writeByte}
 use Rattle.gate.specs.Gate.{highOnFall, edge, setGate}
-use Rattle.mode.specs.Mode.{setMode}
-use Rattle.step.specs.Levels.{lowOfTwo, levelAfterWrite, falls, levelAfterGate, levelAfterMode}
+use Rattle.mode.specs.Mode.{outputAfter, setMode}
+use Rattle.step.specs.Levels.{lowOfTwo, levelAfterWrite, falls, levelAfterGate}
 
 -- a row with one entry throughout
 row-same : (x : Bool) (m : ChannelMode) → byMode x x x x x x m ≡ x
@@ -67,7 +67,7 @@ pub gate-level : (c : Channel) (level : Bool) → setGate c level .pins .output 
 unfolding setGate
 gate-level c level = simp (of-pick getOutputState, edge-output)
 
-pub mode-level : (c : Channel) (word : ControlWord) (model : PitType) → setMode c word model .pins .output ≡ levelAfterMode word
+pub mode-level : (c : Channel) (word : ControlWord) (model : PitType) → setMode c word model .pins .output ≡ outputAfter (word .mode)
 unfolding setMode
 mode-level c word model = refl
 

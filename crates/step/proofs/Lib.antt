@@ -7,3 +7,4 @@ pub mod Leaves
 pub mod Time
 pub mod Events
 pub mod Lent
+pub mod Three

@@ -34,14 +34,14 @@ use Rattle.ports.specs.Reads.{readFrom, readPort}
 use Rattle.ports.specs.Writes.{controlRegisterWrite, dataWrite, writeTo, writePort}
 use Rattle.step.specs.Operation.{Operation, WritePort, ReadPort, SetChannelGate, Counts, LoadCycle, CatchUp, Run, Reset, GetOutputState, GetChannelCount, DoesChannelRetrigger, IsDirty, GetTimerAccum}
 use Rattle.step.specs.Step.{step}
-use Rattle.step.specs.Levels.{levelAfterWrite, levelAfterGate, levelAfterMode}
-use Rattle.step.specs.Refusals.{Refusal, portUnknown, channelAbove2, divisorZero, ticksBelowWarp, remainderTooLarge, tooManyCounts, CommandDue, WriteDue, GateDue, roomOrder, timeOrder, order, makingOrder, FirstOf}
+use Rattle.step.specs.Levels.{levelAfterWrite, levelAfterGate}
+use Rattle.step.specs.Refusals.{Row, portUnknown, channelAbove2, divisorZero, ticksBelowWarp, remainderTooLarge, tooManyCounts, CommandDue, WriteDue, GateDue, roomOrder, timeOrder, order, makingOrder, FirstOf}
 use Rattle.step.proofs.Levels.{write-level, gate-level, mode-level, latch-level}
 use Rattle.step.proofs.Deciding.{accepts, holding, failing, tested, below, equal}
 use Rattle.step.proofs.Settled.{changes, unchanged, settle-refused, untouched-refused}
 
 -- what a channel's test leaves to the others
-on-channel : (b : Board) (n : ℕ) (events : List ℕ) (outcome : Outcome) (rest : List Refusal) (k : ℕ) → (outcome .reply ≡ refused k) ↔ FirstOf rest k
+on-channel : (b : Board) (n : ℕ) (events : List ℕ) (outcome : Outcome) (rest : List Row) (k : ℕ) → (outcome .reply ≡ refused k) ↔ FirstOf rest k
     → (onChannel b n events outcome .reply ≡ refused k) ↔ FirstOf (channelAbove2 n ∷ rest) k
 on-channel b n events outcome rest k others =
     simp (of-pick (λ (o : Outcome). o .reply)) (tested (ltb 2 n) (channelAbove2 n) rest (outcome .reply) k (below 2 n) others)
@@ -82,7 +82,7 @@ command-refused b (LatchCount n) events place k =
     settle-refused b n (channel.latchCount (channelAt b n)) ⊥ events place k (simp latch-level (unchanged n (channelAt b n .pins .output)))
 command-refused b (SetMode n word) events place k =
     settle-refused b n (channelMode.setMode (channelAt b n) word (b .model)) (CommandDue b (SetMode n word)) events place k
-    (simp mode-level (changes n (channelAt b n .pins .output) (levelAfterMode word)))
+    (simp mode-level (changes n (channelAt b n .pins .output) (channelMode.outputAfter (word .mode))))
 
 gate-refused : (b : Board) (n : ℕ) (level : Bool) (events : List ℕ) (place k : ℕ)
     → (setChannelGate b n level events place .reply ≡ refused k)

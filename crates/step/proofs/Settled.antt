@@ -14,8 +14,8 @@ use Rattle.event.specs.declared.Event.the-variants.{Unchanged, Level}
 use Rattle.event.specs.Event.{Placing, eventOf, placeEvent}
 use Rattle.board.specs.declared.Board.{Board}
 use Rattle.board.specs.Board.{channelAt}
-use Rattle.board.specs.Outcome.{place}
-use Rattle.ports.specs.Settle.{placeReply, levelEvent, settle, untouched}
+use Rattle.board.specs.Outcome.{newPlace}
+use Rattle.ports.specs.Settle.{callReply, levelEvent, settle, untouched}
 use Rattle.step.specs.Refusals.{Changes, placePastEnd, noRoom, roomOrder, FirstOf}
 use Rattle.step.proofs.Deciding.{accepts, tested, below, both}
 
@@ -23,26 +23,26 @@ abbrev isDue : Event → Bool
 isDue Unchanged = false
 isDue (Level n level) = true
 
-abbrev newPlace : Event → ℕ → ℕ
-newPlace Unchanged from = from
-newPlace (Level n level) from = from + 2
+abbrev placeAfter : Event → ℕ → ℕ
+placeAfter Unchanged place = place
+placeAfter (Level n level) place = place + 2
 
 -- the two tests, one after the other
-by-tests : (event : Event) (events : List ℕ) (from : ℕ)
-    → placeReply (placeEvent event events from .reply)
-    ≡ cond (ltb (length events) from) (refused 7)
-    (cond (isDue event && ltb (length events - from) 2) (refused 8) (accepted (place (newPlace event from))))
+by-tests : (event : Event) (events : List ℕ) (place : ℕ)
+    → callReply (placeEvent event events place .reply)
+    ≡ cond (ltb (length events) place) (refused 7)
+    (cond (isDue event && ltb (length events - place) 2) (refused 8) (accepted (newPlace (placeAfter event place))))
 unfolding placeEvent
-by-tests Unchanged events from = simp (of-pick (λ (p : Placing). placeReply (p .reply)))
-by-tests (Level n level) events from = simp (of-pick (λ (p : Placing). placeReply (p .reply)))
+by-tests Unchanged events place = simp (of-pick (λ (p : Placing). callReply (p .reply)))
+by-tests (Level n level) events place = simp (of-pick (λ (p : Placing). callReply (p .reply)))
 
-event-refused : (event : Event) (due : Type 0) (events : List ℕ) (from k : ℕ) → (isDue event ≡ true) ↔ due
-    → (placeReply (placeEvent event events from .reply) ≡ refused k) ↔ FirstOf (roomOrder due events from) k
-event-refused event due events from k means =
-    simp (by-tests event events from)
-    (tested (ltb (length events) from) (placePastEnd events from) (noRoom due events from ∷ []) _ k (below (length events) from)
-    (tested (isDue event && ltb (length events - from) 2) (noRoom due events from) [] _ k (both (isDue event) (ltb (length events - from) 2) means (below (length events - from) 2))
-    (accepts (place (newPlace event from)) k)))
+event-refused : (event : Event) (due : Type 0) (events : List ℕ) (place k : ℕ) → (isDue event ≡ true) ↔ due
+    → (callReply (placeEvent event events place .reply) ≡ refused k) ↔ FirstOf (roomOrder due events place) k
+event-refused event due events place k means =
+    simp (by-tests event events place)
+    (tested (ltb (length events) place) (placePastEnd events place) (noRoom due events place ∷ []) _ k (below (length events) place)
+    (tested (isDue event && ltb (length events - place) 2) (noRoom due events place) [] _ k (both (isDue event) (ltb (length events - place) 2) means (below (length events - place) 2))
+    (accepts (newPlace (placeAfter event place)) k)))
 
 -- an event is due exactly when the level changes
 pub changes : (n : ℕ) (was is : Bool) → (isDue (eventOf n was is) ≡ true) ↔ Changes was is
@@ -56,13 +56,13 @@ pub unchanged : (n : ℕ) (level : Bool) → (isDue (eventOf n level level) ≡ 
 unchanged n true = (λ e. false≢true e, λ none. absurd none)
 unchanged n false = (λ e. false≢true e, λ none. absurd none)
 
-pub settle-refused : (b : Board) (n : ℕ) (c : Channel) (due : Type 0) (events : List ℕ) (from k : ℕ)
+pub settle-refused : (b : Board) (n : ℕ) (c : Channel) (due : Type 0) (events : List ℕ) (place k : ℕ)
     → (isDue (levelEvent n (channelAt b n) c) ≡ true) ↔ due
-    → (settle b n c events from .reply ≡ refused k) ↔ FirstOf (roomOrder due events from) k
+    → (settle b n c events place .reply ≡ refused k) ↔ FirstOf (roomOrder due events place) k
 unfolding settle
-settle-refused b n c due events from k means = event-refused (levelEvent n (channelAt b n) c) due events from k means
+settle-refused b n c due events place k means = event-refused (levelEvent n (channelAt b n) c) due events place k means
 
-pub untouched-refused : (b : Board) (events : List ℕ) (from k : ℕ)
-    → (untouched b events from .reply ≡ refused k) ↔ FirstOf (roomOrder ⊥ events from) k
+pub untouched-refused : (b : Board) (events : List ℕ) (place k : ℕ)
+    → (untouched b events place .reply ≡ refused k) ↔ FirstOf (roomOrder ⊥ events place) k
 unfolding untouched
-untouched-refused b events from k = event-refused Unchanged ⊥ events from k (λ e. false≢true e, λ none. absurd none)
+untouched-refused b events place k = event-refused Unchanged ⊥ events place k (λ e. false≢true e, λ none. absurd none)

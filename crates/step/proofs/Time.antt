@@ -42,7 +42,7 @@ step-balanced : (b : Board) (o : Operation) → Balanced b (taken b o) (step b o
 step-balanced b o =
     every-step b (λ events ticks outcome. Balanced b ticks outcome)
     (λ events number. record { divisor-kept = refl; balance = none-in b })
-    (λ events bytes value channels none fits. record { divisor-kept = refl; balance = simp none (none-in b) })
+    (λ events bytes value channels none fits three. record { divisor-kept = refl; balance = simp none (none-in b) })
     (time-balanced b)
     o
 

@@ -13,19 +13,19 @@ abbrev pub levelAt : Board → ℕ → Bool
 levelAt b n = channelAt b n .pins .output
 
 -- "the old if no event": every output stands where it stood, and no byte changes
-pub record NoEvent (b : Board) (events : List ℕ) (from : ℕ) (outcome : Outcome) (new : ℕ) : Type 0 where
-  pub same-place : new ≡ from
+pub record NoEvent (b : Board) (events : List ℕ) (place : ℕ) (outcome : Outcome) (new : ℕ) : Type 0 where
+  pub same-place : new ≡ place
   pub same-bytes : outcome .events ≡ events
   pub same-levels : (m : ℕ) → levelAt (outcome .board) m ≡ levelAt b m
 
 -- "The new place is the old plus 2": the bytes name the one channel whose output changed, and its level now; "No other byte changes."
-pub record OneEvent (b : Board) (events : List ℕ) (from : ℕ) (outcome : Outcome) (new : ℕ) : Type 0 where
+pub record OneEvent (b : Board) (events : List ℕ) (place : ℕ) (outcome : Outcome) (new : ℕ) : Type 0 where
   pub channel : ℕ
   pub on-board : channel < 3
-  pub next-place : new ≡ from + 2
-  pub written : Written events (outcome .events) from channel (levelAt (outcome .board) channel)
+  pub next-place : new ≡ place + 2
+  pub written : Written events (outcome .events) place channel (levelAt (outcome .board) channel)
   pub changed : levelAt b channel ≡ levelAt (outcome .board) channel → ⊥
   pub others-stand : (m : ℕ) → (m ≡ channel → ⊥) → levelAt (outcome .board) m ≡ levelAt b m
 
 abbrev pub Told : Board → List ℕ → ℕ → Outcome → ℕ → Type 0
-Told b events from outcome new = NoEvent b events from outcome new ⊎ OneEvent b events from outcome new
+Told b events place outcome new = NoEvent b events place outcome new ⊎ OneEvent b events place outcome new

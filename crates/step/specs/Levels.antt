@@ -1,9 +1,7 @@
--- What document 01 says of the output level: where an operation moves it, and to which level. Written from its sentences, beside the rules that
--- make up a step; the theorems of proofs/Levels.antt tie the two.
-use Prim.Native.Nat.{ℕ}
+-- What document 01 says of the output's level after a data write and after a gate level, in one place and apart from the rules that make up a
+-- step; proofs/Levels.antt ties the two. After a mode set it is that rule's own row, `outputAfter`.
 use mathlib.Core.Bool.{Bool, true, false, cond}
 use Rattle.channel.specs.declared.Channel.{Channel}
-use Rattle.channel.specs.declared.ControlWord.{ControlWord}
 use Rattle.channel.specs.declared.LoadState.{LoadState}
 use Rattle.channel.specs.declared.LoadState.the-variants.{WaitingForLsb, WaitingForMsb}
 use Rattle.channel.specs.declared.RwMode.{RwMode}
@@ -36,7 +34,3 @@ levelAfterGate c level =
     cond (waitsForReload (c .counter .«channel_state»)) (c .pins .output)
     (cond (falls (c .pins .gate) level) (byMode (c .pins .output) (c .pins .output) true true (c .pins .output) (c .pins .output) (c .control .mode))
     (c .pins .output))
-
--- "Output becomes low in mode 0, high in 1 to 5."
-abbrev pub levelAfterMode : ControlWord → Bool
-levelAfterMode word = byMode false true true true true true (word .mode)

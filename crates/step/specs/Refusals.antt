@@ -1,4 +1,4 @@
--- Document 01, "Refusal numbers": the table's conditions, and the order in which a call tests them.
+-- Document 01, "Row numbers": the table's conditions, and the order in which a call tests them.
 use Prim.Native.Nat.{ℕ, _+_, _-_, _<_, _≤_}
 use mathlib.Core.Bool.{Bool}
 use mathlib.Core.List.{List, [], _∷_}
@@ -8,49 +8,50 @@ use lib.ListN.{length}
 use Rattle.control.specs.declared.Command.{Command}
 use Rattle.control.specs.declared.Command.the-variants.{Nothing, LatchCount, SetMode}
 use Rattle.control.specs.Control.{commandOf}
+use Rattle.mode.specs.Mode.{outputAfter}
 use Rattle.board.specs.declared.Board.{Board}
 use Rattle.board.specs.Board.{channelAt}
 use Rattle.ports.specs.declared.port.Port.{Port}
 use Rattle.ports.specs.declared.port.Port.the-variants as port
 use Rattle.ports.specs.Port.{portOf}
 use Rattle.step.specs.Operation.{Operation, WritePort, ReadPort, SetChannelGate, Counts, LoadCycle, CatchUp, Run, Reset, GetOutputState, GetChannelCount, DoesChannelRetrigger, IsDirty, GetTimerAccum}
-use Rattle.step.specs.Levels.{levelAfterWrite, levelAfterGate, levelAfterMode}
+use Rattle.step.specs.Levels.{levelAfterWrite, levelAfterGate}
 
 -- a number of the table, and its "Given exactly when"
-pub record Refusal : Type 1 where
+pub record Row : Type 1 where
   pub number : ℕ
   pub condition : Type 0
 
 -- 1: "port not 0x40 to 0x43"
-abbrev pub portUnknown : ℕ → Refusal
+abbrev pub portUnknown : ℕ → Row
 portUnknown port = record { number = 1; condition = ((0x40 ≤ port) × (port ≤ 0x43)) → ⊥ }
 
 -- 2: "channel above 2"
-abbrev pub channelAbove2 : ℕ → Refusal
+abbrev pub channelAbove2 : ℕ → Row
 channelAbove2 channel = record { number = 2; condition = 2 < channel }
 
 -- 3: "divisor 0"
-abbrev pub divisorZero : ℕ → Refusal
+abbrev pub divisorZero : ℕ → Row
 divisorZero divisor = record { number = 3; condition = divisor ≡ 0 }
 
 -- 4: "ticks below the warp"
-abbrev pub ticksBelowWarp : Board → ℕ → Refusal
+abbrev pub ticksBelowWarp : Board → ℕ → Row
 ticksBelowWarp b given = record { number = 4; condition = given < b .warp .0 }
 
 -- 5: "remainder + (ticks - warp) above 4,294,967,295"
-abbrev pub remainderTooLarge : Board → ℕ → Refusal
+abbrev pub remainderTooLarge : Board → ℕ → Row
 remainderTooLarge b given = record { number = 5; condition = 4294967295 < b .remainder .0 + (given - b .warp .0) }
 
 -- 6: "more than 65,536 counts asked in one call"
-abbrev pub tooManyCounts : ℕ → Refusal
+abbrev pub tooManyCounts : ℕ → Row
 tooManyCounts number = record { number = 6; condition = 65536 < number }
 
 -- 7: "event place past the end of the event bytes"
-abbrev pub placePastEnd : List ℕ → ℕ → Refusal
+abbrev pub placePastEnd : List ℕ → ℕ → Row
 placePastEnd events place = record { number = 7; condition = length events < place }
 
 -- 8: "an event is due and fewer than 2 bytes are left from the place"
-abbrev pub noRoom : Type 0 → List ℕ → ℕ → Refusal
+abbrev pub noRoom : Type 0 → List ℕ → ℕ → Row
 noRoom due events place = record { number = 8; condition = due × (length events - place < 2) }
 
 -- "a change of output level": an event is due. "Setting a level that already stands is no event."
@@ -61,7 +62,7 @@ Changes was is = was ≡ is → ⊥
 abbrev pub CommandDue : Board → Command → Type 0
 CommandDue b Nothing = ⊥
 CommandDue b (LatchCount n) = ⊥
-CommandDue b (SetMode n word) = Changes (channelAt b n .pins .output) (levelAfterMode word)
+CommandDue b (SetMode n word) = Changes (channelAt b n .pins .output) (outputAfter (word .mode))
 
 abbrev pub WriteDue : Board → Port → ℕ → Type 0
 WriteDue b (port.Data n) byte = Changes (channelAt b n .pins .output) (levelAfterWrite (channelAt b n))
@@ -72,15 +73,15 @@ abbrev pub GateDue : Board → ℕ → Bool → Type 0
 GateDue b n level = Changes (channelAt b n .pins .output) (levelAfterGate (channelAt b n) level)
 
 -- "7, 8"
-abbrev pub roomOrder : Type 0 → List ℕ → ℕ → List Refusal
+abbrev pub roomOrder : Type 0 → List ℕ → ℕ → List Row
 roomOrder due events place = placePastEnd events place ∷ noRoom due events place ∷ []
 
 -- "time calls 3, 4, 5"
-abbrev pub timeOrder : Board → ℕ → List Refusal
+abbrev pub timeOrder : Board → ℕ → List Row
 timeOrder b given = divisorZero (b .divisor) ∷ ticksBelowWarp b given ∷ remainderTooLarge b given ∷ []
 
 -- "Order: port write 1, 7, 8; read 1; gate 2, 7, 8; counts 2, 6; load cycle and channel queries 2; time calls 3, 4, 5"
-abbrev pub order : Board → Operation → List Refusal
+abbrev pub order : Board → Operation → List Row
 order b (WritePort port byte events place) = portUnknown port ∷ roomOrder (WriteDue b (portOf port) byte) events place
 order b (ReadPort port) = portUnknown port ∷ []
 order b (SetChannelGate channel level events place) = channelAbove2 channel ∷ roomOrder (GateDue b channel level) events place
@@ -96,10 +97,10 @@ order b (IsDirty channel) = channelAbove2 channel ∷ []
 order b GetTimerAccum = []
 
 -- "making a board 3"
-abbrev pub makingOrder : ℕ → List Refusal
+abbrev pub makingOrder : ℕ → List Row
 makingOrder divisor = divisorZero divisor ∷ []
 
 -- the number of the first refusal whose condition holds: it holds, and none before it does
-abbrev pub FirstOf : List Refusal → ℕ → Type 0
+abbrev pub FirstOf : List Row → ℕ → Type 0
 FirstOf [] number = ⊥
 FirstOf (r ∷ rest) number = ((number ≡ r .number) × r .condition) ⊎ ((r .condition → ⊥) × FirstOf rest number)

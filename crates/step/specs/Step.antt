@@ -1,4 +1,5 @@
--- One step of the board: an operation in; reply, board and event bytes out. Each line is what the contract of that call equates it with.
+-- One step of the board: an operation in; reply, board and event bytes out. Each line is what the contract of that call equates its outcome
+-- with; a reset and `get_timer_accum`, which refuse nothing, hand back the board or the number alone.
 use mathlib.Core.List.{List, [], _∷_}
 use Rattle.board.specs.declared.Board.{Board}
 use Rattle.board.specs.Outcome.{Outcome, done, timerAccum, accept}

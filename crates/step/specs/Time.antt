@@ -3,13 +3,13 @@ use Prim.Native.Nat.{ℕ, _+_, _-_}
 use mathlib.Core.List.{List, [], _∷_}
 use Rattle.refusal.specs.Reply.{Reply, refused, accepted}
 use Rattle.board.specs.declared.Board.{Board}
-use Rattle.board.specs.Outcome.{Value, done, place, byte, ticks, outputState, channelCount, retriggers, dirtyMarks, timerAccum}
+use Rattle.board.specs.Outcome.{Value, done, newPlace, byte, ticks, outputState, channelCount, retriggers, dirtyMarks, timerAccum}
 use Rattle.step.specs.Operation.{Operation, WritePort, ReadPort, SetChannelGate, Counts, LoadCycle, CatchUp, Run, Reset, GetOutputState, GetChannelCount, DoesChannelRetrigger, IsDirty, GetTimerAccum}
 use Rattle.step.specs.Step.{step}
 
 abbrev pub ticksIn : Value → ℕ
 ticksIn done = 0
-ticksIn (place p) = 0
+ticksIn (newPlace p) = 0
 ticksIn (byte x) = 0
 ticksIn (ticks n) = n
 ticksIn (outputState level) = 0
@@ -30,9 +30,9 @@ ifAccepted (accepted value) n = n
 
 -- the system ticks that a call takes in: "ticks minus warp", the warp being the board's when the call comes
 abbrev pub taken : Board → Operation → ℕ
-taken b (WritePort port written events from) = 0
+taken b (WritePort port written events place) = 0
 taken b (ReadPort port) = 0
-taken b (SetChannelGate channel level events from) = 0
+taken b (SetChannelGate channel level events place) = 0
 taken b (Counts channel number) = 0
 taken b (LoadCycle channel) = 0
 taken b (CatchUp given) = ifAccepted (step b (CatchUp given) .reply) (given - b .warp .0)
