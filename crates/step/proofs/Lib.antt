@@ -8,3 +8,4 @@ pub mod Time
 pub mod Events
 pub mod Lent
 pub mod Three
+pub mod Still

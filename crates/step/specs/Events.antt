@@ -1,13 +1,14 @@
 -- Document 01, "Output events": what the lent bytes and the new place tell of an accepted call, before and after.
 use Prim.Native.Nat.{ℕ, _+_, _<_}
-use mathlib.Core.Bool.{Bool}
+use mathlib.Core.Bool.{Bool, true, false}
 use mathlib.Core.List.{List}
 use mathlib.Core.Logic.{_⊎_}
 use mathlib.Core.Path.{_≡_}
 use Rattle.event.specs.Written.{Written}
 use Rattle.board.specs.declared.Board.{Board}
 use Rattle.board.specs.Board.{channelAt}
-use Rattle.board.specs.Outcome.{Outcome}
+use Rattle.board.specs.Outcome.{Outcome, Value, newPlace}
+use Rattle.step.specs.Operation.{Operation, WritePort, ReadPort, SetChannelGate, Counts, LoadCycle, CatchUp, Run, Reset, GetOutputState, GetChannelCount, DoesChannelRetrigger, IsDirty, GetTimerAccum}
 
 abbrev pub levelAt : Board → ℕ → Bool
 levelAt b n = channelAt b n .pins .output
@@ -29,3 +30,23 @@ pub record OneEvent (b : Board) (events : List ℕ) (place : ℕ) (outcome : Out
 
 abbrev pub Told : Board → List ℕ → ℕ → Outcome → ℕ → Type 0
 Told b events place outcome new = NoEvent b events place outcome new ⊎ OneEvent b events place outcome new
+
+-- an accepted call answers a new place, and the bytes tell what it did
+abbrev pub ToldBy : Board → List ℕ → ℕ → Outcome → Value → Type 0
+ToldBy b events place outcome value = (new : ℕ) × (value ≡ newPlace new) × Told b events place outcome new
+
+-- which operations may move an output: a port write and a gate, which tell of it, and a reset, which raises no event
+abbrev pub mayMove : Operation → Bool
+mayMove (WritePort port x events place) = true
+mayMove (ReadPort port) = false
+mayMove (SetChannelGate n level events place) = true
+mayMove (Counts n number) = false
+mayMove (LoadCycle n) = false
+mayMove (CatchUp given) = false
+mayMove (Run given) = false
+mayMove Reset = true
+mayMove (GetOutputState n) = false
+mayMove (GetChannelCount n) = false
+mayMove (DoesChannelRetrigger n) = false
+mayMove (IsDirty n) = false
+mayMove GetTimerAccum = false
