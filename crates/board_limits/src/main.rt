@@ -1,6 +1,5 @@
 // Runs the calls of a board at their limits, where document 01 asks for a run and not a theorem, and prints what each answers and leaves.
 use board::Answer;
-use board::Answered;
 use board::Board;
 use channel::PitType;
 use libc::STDOUT_FILENO;

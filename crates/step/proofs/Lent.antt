@@ -2,7 +2,6 @@
 use Prim.Native.Nat.{ℕ}
 use mathlib.Core.Path.{_≡_, refl}
 use mathlib.Core.Bool.{Bool}
-use mathlib.Core.List.{[]}
 use lib.ListN.{length}
 use Rattle.refusal.specs.Reply.{Reply, refused, accepted}
 use Rattle.time.specs.Time.{Yield}

@@ -1,14 +1,14 @@
 -- Demand 1: a step gives a refusal's number exactly when that refusal's condition holds and none before it in the call's order does.
 -- Assumes nothing.
 use Prim.Native.Nat.{ℕ, _-_, _<_, _≤_}
-use mathlib.Core.Path.{_≡_, refl, sym}
+use mathlib.Core.Path.{_≡_, refl}
 use mathlib.Core.Bool.{Bool, true, false, cond}
 use mathlib.Core.List.{List, [], _∷_}
 use mathlib.Core.Logic.{_↔_}
 use native.Mathlib.Omega.{arith}
 use lib.Dec.{ltb, eqb}
 use borrow.Author.Tests.{ltb-true, ltb-false, eqb-true, eqb-false}
-use Rattle.refusal.specs.Reply.{Reply, refused, accepted}
+use Rattle.refusal.specs.Reply.{Reply, refused}
 use Rattle.channel.specs.declared.PitType.{PitType}
 use Rattle.channel.proofs.Pick.{of-pick}
 use Rattle.control.specs.declared.Command.{Command}

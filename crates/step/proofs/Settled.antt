@@ -1,12 +1,12 @@
 -- The calls that may raise an event: refusals 7 and 8 are given exactly on their conditions. Assumes nothing.
-use Prim.Native.Nat.{ℕ, _+_, _-_, _<_}
+use Prim.Native.Nat.{ℕ, _+_, _-_}
 use mathlib.Core.Path.{_≡_, refl}
 use mathlib.Core.Bool.{Bool, true, false, cond, _&&_, false≢true, true≢false}
 use mathlib.Core.List.{List, [], _∷_}
 use mathlib.Core.Logic.{_↔_}
 use lib.Dec.{ltb}
 use lib.ListN.{length}
-use Rattle.refusal.specs.Reply.{Reply, refused, accepted}
+use Rattle.refusal.specs.Reply.{refused, accepted}
 use Rattle.channel.specs.declared.Channel.{Channel}
 use Rattle.channel.proofs.Pick.{of-pick}
 use Rattle.event.specs.declared.Event.{Event}

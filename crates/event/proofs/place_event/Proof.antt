@@ -3,7 +3,7 @@ use Prim.Native.Nat.{_+_}
 use mathlib.Core.Path.{ap}
 use borrow.Author.Tests.{lt-ltb, le-ltb}
 use borrow.Author.Needs.{needs}
-use Rattle.event.specs.Event.{Placing, placeEvent}
+use Rattle.event.specs.Event.{placeEvent}
 use Rattle.refusal.specs.Reply.{accepted}
 use Rattle.event.proofs.Lists.{event-back}
 use Rattle.event.proofs.place_event.Statement.{statement}
