@@ -6,15 +6,8 @@ use channel::ReadState;
 use channel::ReloadFlag;
 use channel::RwMode;
 ghost use mathlib.Core.Path.{_≡_};
-ghost use Rattle.numbers.specs.Flags.{flagNumber};
 ghost use Prim.Native.Nat.{_≤_};
 ghost use Rattle.encoding.specs.Codes.{flagCoded, accessByte, accessCoded, loadStateByte, loadStateCoded, loadTypeByte, loadTypeCoded, readStateByte, readStateCoded, countingByte, stateByte, stateCoded};
-
-pub fn flag_byte(flag: bool) -> u8
-    ensures { λ r. ⌜ r ≡ flagNumber flag ⌝ }
-{
-    if flag { 1 } else { 0 }
-}
 
 pub(crate) fn flag_coded(byte: u8) -> bool
     ensures { λ r. ⌜ r ≡ flagCoded byte ⌝ }

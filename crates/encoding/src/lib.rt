@@ -3,7 +3,6 @@ mod codes;
 pub mod loading;
 mod storing;
 
-pub use codes::flag_byte;
 pub use loading::load_channel;
 pub use storing::channel_bytes;
 pub use storing::put_front;

@@ -40,7 +40,7 @@ fn control_bytes(c: Channel) -> [u8; 3]
     [
         mode.number(),
         codes::access_byte(access),
-        codes::flag_byte(w.bcd_mode),
+        numbers::flag_byte(w.bcd_mode),
     ]
 }
 
@@ -50,8 +50,8 @@ fn reloading_bytes(c: Channel) -> [u8; 4]
     let rule = c.reloading;
     let mask = two_bytes(rule.load_mask);
     [
-        codes::flag_byte(rule.output_on_reload),
-        codes::flag_byte(rule.reload_on_trigger),
+        numbers::flag_byte(rule.output_on_reload),
+        numbers::flag_byte(rule.reload_on_trigger),
         mask[0],
         mask[1],
     ]
@@ -72,7 +72,7 @@ fn load_bytes(c: Channel) -> [u8; 7]
         reload[1],
         codes::load_state_byte(load_state),
         codes::load_type_byte(load_type),
-        codes::flag_byte(l.armed),
+        numbers::flag_byte(l.armed),
     ]
 }
 
@@ -91,7 +91,7 @@ fn counter_bytes(c: Channel) -> [u8; 8]
         cycles[3],
         element[0],
         element[1],
-        codes::flag_byte(k.ticked),
+        numbers::flag_byte(k.ticked),
     ]
 }
 
@@ -104,7 +104,7 @@ fn latch_bytes(c: Channel) -> [u8; 4]
     [
         held[0],
         held[1],
-        codes::flag_byte(l.count_is_latched),
+        numbers::flag_byte(l.count_is_latched),
         codes::read_state_byte(read_state),
     ]
 }
@@ -113,7 +113,7 @@ fn pins_bytes(c: Channel) -> [u8; 2]
     ensures { λ r. ⌜ r ≡ pinsBytes (c .pins) ⌝ }
 {
     let p = c.pins;
-    [codes::flag_byte(p.gate), codes::flag_byte(p.output)]
+    [numbers::flag_byte(p.gate), numbers::flag_byte(p.output)]
 }
 
 pub fn channel_bytes(c: Channel) -> [u8; 29]
@@ -125,7 +125,7 @@ pub fn channel_bytes(c: Channel) -> [u8; 29]
     let k = counter_bytes(c);
     let t = latch_bytes(c);
     let p = pins_bytes(c);
-    let d = codes::flag_byte(c.dirty);
+    let d = numbers::flag_byte(c.dirty);
     [
         w[0],
         w[1],

@@ -3,7 +3,6 @@ use refusal::Refusal;
 ghost use mathlib.Core.Path.{_≡_};
 ghost use Prim.Native.Nat.{_≤_};
 ghost use lib.ListN.{length};
-ghost use Rattle.numbers.specs.Flags.{flagNumber};
 ghost use Rattle.event.specs.Event.{sameLevel, eventOf, firstTwo, placing, placeEvent};
 
 pub enum Event {
@@ -39,19 +38,13 @@ pub fn event_of(channel: u8, was: bool, is: bool) -> Event
     Event::Level(channel, is)
 }
 
-fn level_byte(level: bool) -> u8
-    ensures { λ r. ⌜ r ≡ flagNumber level ⌝ }
-{
-    if level { 1 } else { 0 }
-}
-
 // The event writer: it is lent the rest of the event bytes, from the place on.
 fn write_event(rest: &mut [u8], channel: u8, level: bool)
     requires { ⌜ 2 ≤ length (now rest) ⌝ }
     ensures { λ r. ⌜ now (rest .exit) ≡ firstTwo channel level (now (rest .entry)) ⌝ }
 {
     rest[0] = channel;
-    rest[1] = level_byte(level);
+    rest[1] = numbers::flag_byte(level);
 }
 
 // Refusals 7 and 8 are given here, before any byte is written.

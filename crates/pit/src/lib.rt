@@ -50,7 +50,7 @@ fn answer_bytes(made: Made) -> [u8; 7]
     ensures { λ r. ⌜ r ≡ answerBytes made ⌝ }
 {
     let c = made.channel;
-    let level = encoding::flag_byte(c.get_output_state());
+    let level = numbers::flag_byte(c.get_output_state());
     let first = encoding::two_bytes(made.first);
     let second = encoding::two_bytes(made.second);
     let third = encoding::two_bytes(made.third);

@@ -8,7 +8,7 @@ use Rattle.event.proofs.write_event.Tie as tie
 returns : tie.Need-returns
 returns c =
     let a = c .before .before .args in
-    simp (c .level-byte .ensures) (first-two (a .rest .now) (a .channel) (flagNumber (a .level)) (c .before .before .pre))
+    simp (c .flag-byte .ensures) (first-two (a .rest .now) (a .channel) (flagNumber (a .level)) (c .before .before .pre))
 
 pub write-event-spec : {M : Type 1} → statement M
 write-event-spec =
