@@ -1,5 +1,6 @@
 -- A board with one of its parts put in the place of another, and a channel found by its place.
 use Prim.Native.Nat.{ℕ}
+use mathlib.Core.Bool.{Bool}
 use mathlib.Core.List.{List}
 use lib.ListN.{getD, set}
 use Rattle.channel.specs.declared.Channel.{Channel}
@@ -23,3 +24,15 @@ withChannels b channels =
 
 abbrev pub withChannel : Board → ℕ → Channel → Board
 withChannel b n c = withChannels b (set (b .channels) n c)
+
+-- the board with another remainder, warp and defer flag
+abbrev pub withTime : Board → ℕ → ℕ → Bool → Board
+withTime b remainder warp defer =
+    record {
+      channels = b .channels;
+      model = b .model;
+      divisor = b .divisor;
+      remainder = record { 0 = remainder };
+      warp = record { 0 = warp };
+      defer = defer;
+    }

@@ -25,9 +25,11 @@ pub data Value : Type 0 where
   -- the remainder
   timerAccum : ℕ → Value
 
+-- what `get_channel_count` answers
 abbrev pub countValue : ChannelCount → Value
 countValue c = channelCount (c .«count_register») (c .«counting_element») (c .counting)
 
+-- the reply, the board handed back, and the lent bytes at the call's end
 pub record Outcome : Type 0 where
   pub reply : Reply Value
   pub board : Board

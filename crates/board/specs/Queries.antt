@@ -7,6 +7,7 @@ use Rattle.board.specs.declared.Board.{Board}
 use Rattle.board.specs.Board.{channelAt, withChannel}
 use Rattle.board.specs.Outcome.{Outcome, outputState, countValue, retriggers, dirtyMarks, accept, onChannel}
 
+-- the channel's own answers (channel/specs/Queries.antt); the board stays
 unfoldable pub getOutputState : Board → ℕ → Outcome
 getOutputState b n = onChannel b n [] (accept (outputState (channel.getOutputState (channelAt b n))) b)
 
@@ -23,5 +24,6 @@ dirtyOutcome b n d = accept (dirtyMarks (d .dirty) (d .counting) (d .ticked)) (w
 unfoldable pub isDirty : Board → ℕ → Outcome
 isDirty b n = onChannel b n [] (dirtyOutcome b n (channel.isDirty (channelAt b n)))
 
+-- the Rust's text: the accumulated system ticks, which are document 01's remainder
 abbrev pub getTimerAccum : Board → ℕ
 getTimerAccum b = b .remainder .0

@@ -5,23 +5,12 @@ use mathlib.Core.List.{[]}
 use Rattle.refusal.specs.Reply.{Reply, refused, accepted}
 use Rattle.time.specs.Time.{Yield, ticksFromTime}
 use Rattle.board.specs.declared.Board.{Board}
+use Rattle.board.specs.Board.{withTime}
 use Rattle.board.specs.Outcome.{Outcome, ticks, refuse, accept}
 
 -- "A catch-up or run adds ticks minus warp to the remainder", with the board's own divisor, remainder and warp. Refusals 3, 4, 5
 abbrev pub elapsed : Board → ℕ → Reply Yield
 elapsed b given = ticksFromTime given (b .warp .0) (b .remainder .0) (b .divisor)
-
--- the board with another remainder, warp and defer flag
-abbrev pub withTime : Board → ℕ → ℕ → Bool → Board
-withTime b remainder warp defer =
-    record {
-      channels = b .channels;
-      model = b .model;
-      divisor = b .divisor;
-      remainder = record { 0 = remainder };
-      warp = record { 0 = warp };
-      defer = defer;
-    }
 
 -- "yields quotient by the divisor as timer ticks, keeps the rest", and leaves this warp and defer flag
 abbrev pub yielding : Board → ℕ → Bool → Reply Yield → Outcome

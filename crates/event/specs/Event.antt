@@ -12,6 +12,7 @@ use Rattle.event.specs.declared.Event.the-variants.{Unchanged, Level}
 use Rattle.event.specs.declared.Placed.{Placed}
 use Rattle.event.specs.declared.Placed.the-variants.{At, Refused}
 
+-- whether a level "already stands"
 abbrev pub sameLevel : Bool → Bool → Bool
 sameLevel true true = true
 sameLevel true false = false
@@ -47,10 +48,11 @@ unfoldable pub placeEvent : Event → List ℕ → ℕ → Placing
 placeEvent event bytes place =
     cond (ltb (length bytes) place) (record { reply = refused 7; bytes = bytes }) (placeDue event bytes place)
 
--- document 01's number or value for each answer of the code
+-- document 01's number or place for each answer of the code
 abbrev pub placedReply : Placed → Reply ℕ
 placedReply (At place) = accepted place
 placedReply (Refused refusal) = refused (refusalNumber refusal)
 
+-- .. and with it the lent bytes at the call's end
 abbrev pub placing : Placed → List ℕ → Placing
 placing answer bytes = record { reply = placedReply answer; bytes = bytes }

@@ -24,10 +24,12 @@ abbrev pub boardAfter : Reply ℕ → Board → Board → Board
 boardAfter (refused number) old new = old
 boardAfter (accepted p) old new = new
 
+-- an event placed, or refused, and the board that this leaves
 abbrev pub placedOn : Board → Board → Placing → Outcome
 placedOn old new placing =
     record { reply = callReply (placing .reply); board = boardAfter (placing .reply) old new; events = placing .bytes }
 
+-- the new record at its place, unless the event of its output is refused: 7, 8
 unfoldable pub settle : Board → ℕ → Channel → List ℕ → ℕ → Outcome
 settle b n c events place = placedOn b (withChannel b n c) (placeEvent (levelEvent n (channelAt b n) c) events place)
 
