@@ -8,7 +8,7 @@ ghost use mathlib.Core.Path.{_≡_};
 ghost use mathlib.Core.List.{[]};
 ghost use Rattle.board.specs.Answer.{outcome};
 ghost use Rattle.time.specs.Time.{passedReply};
-ghost use Rattle.clock.specs.Clock.{elapsed, catchUp, run};
+ghost use Rattle.clock.specs.Clock.{elapsed, yielding, catchUp, run};
 
 fn pass(b: Board, ticks: SystemTicks) -> Passed
     ensures { λ r. ⌜ passedReply r ≡ elapsed b (ticks .0) ⌝ }
@@ -18,9 +18,9 @@ fn pass(b: Board, ticks: SystemTicks) -> Passed
     time::ticks_from_time(ticks, warp, remainder, b.divisor)
 }
 
-// In the middle of an instruction: the chip is brought up to the processor, and the ticks given stand as the warp until the run. Refusals 3, 4, 5.
-pub fn catch_up(b: Board, ticks: SystemTicks) -> Answered
-    ensures { λ r. ⌜ outcome r [] ≡ catchUp b (ticks .0) ⌝ }
+// The ticks yielded, and the board with the rest, this warp and this defer flag. Refusals 3, 4 and 5.
+fn elapse(b: Board, ticks: SystemTicks, warp: SystemTicks, defer: bool) -> Answered
+    ensures { λ r. ⌜ outcome r [] ≡ yielding b (warp .0) defer (elapsed b (ticks .0)) ⌝ }
 {
     let passed = pass(b, ticks);
     match passed {
@@ -30,8 +30,8 @@ pub fn catch_up(b: Board, ticks: SystemTicks) -> Answered
             let rest = conversion.remainder;
             let mut board = b;
             board.remainder = rest;
-            board.warp = ticks;
-            board.defer = true;
+            board.warp = warp;
+            board.defer = defer;
             Answered {
                 answer: Answer::Ticks(yielded),
                 board,
@@ -40,24 +40,17 @@ pub fn catch_up(b: Board, ticks: SystemTicks) -> Answered
     }
 }
 
-// At the end of an instruction: what a catch-up has already taken of it is not taken twice, and the warp ends. Refusals 3, 4, 5.
+// In the middle of an instruction: the chip is brought up to the processor, and the ticks given stand as the warp until the run.
+pub fn catch_up(b: Board, ticks: SystemTicks) -> Answered
+    ensures { λ r. ⌜ outcome r [] ≡ catchUp b (ticks .0) ⌝ }
+{
+    elapse(b, ticks, ticks, true)
+}
+
+// At the end of an instruction: what a catch-up has already taken of it is not taken twice, and the warp ends.
 pub fn run(b: Board, ticks: SystemTicks) -> Answered
     ensures { λ r. ⌜ outcome r [] ≡ run b (ticks .0) ⌝ }
 {
-    let passed = pass(b, ticks);
-    match passed {
-        Passed::Refused(refusal) => b.refuse(refusal),
-        Passed::Converted(conversion) => {
-            let yielded = conversion.ticks;
-            let rest = conversion.remainder;
-            let warp = SystemTicks(0);
-            let mut board = b;
-            board.remainder = rest;
-            board.warp = warp;
-            Answered {
-                answer: Answer::Ticks(yielded),
-                board,
-            }
-        }
-    }
+    let none = SystemTicks(0);
+    elapse(b, ticks, none, b.defer)
 }

@@ -35,7 +35,7 @@ fn silent(channel: Channel) -> Made
 fn as_number(flag: bool) -> u16
     ensures { λ r. ⌜ r ≡ flagNumber flag ⌝ }
 {
-    if flag { 1 } else { 0 }
+    numbers::flag_byte(flag) as u16
 }
 
 fn read(c: Channel) -> Made

@@ -1,4 +1,4 @@
-// Ports and gates: the calls of the board that may change an output, and the read.
+// Ports and gates: the calls of the board that may raise an event, and the read.
 //
 // What those calls share stands here: a channel's new record is put back at its place, and the event of its output is written where there is one.
 mod gating;
@@ -16,23 +16,9 @@ pub use gating::set_channel_gate;
 pub use reading::read_port;
 pub use writing::write_port;
 ghost use mathlib.Core.Path.{_≡_};
-ghost use Rattle.board.specs.Answer.{replyOf, outcome};
+ghost use Rattle.board.specs.Answer.{outcome};
 ghost use Prim.Native.Nat.{_<_};
-ghost use Rattle.event.specs.Event.{placedReply};
-ghost use Rattle.ports.specs.Settle.{levelEvent, callReply, boardAfter, settle, untouched};
-
-// The new board where the event was placed, the old one where it was refused.
-fn answering(placed: Placed, old: Board, new: Board) -> Answered
-    ensures { λ r. ⌜ (replyOf (r .answer) ≡ callReply (placedReply placed)) × (r .board ≡ boardAfter (placedReply placed) old new) ⌝ }
-{
-    match placed {
-        Placed::At(place) => Answered {
-            answer: Answer::Place(place),
-            board: new,
-        },
-        Placed::Refused(refusal) => old.refuse(refusal),
-    }
-}
+ghost use Rattle.ports.specs.Settle.{levelEvent, settle, untouched};
 
 fn level_event(n: usize, old: Channel, new: Channel) -> Event
     requires { ⌜ n < 3 ⌝ }
@@ -51,9 +37,17 @@ fn settle(b: Board, n: usize, c: Channel, events: &mut [u8], place: usize) -> An
     let old = b.channels[n];
     let event = level_event(n, old, c);
     let placed = event::place_event(events, place, event);
-    let mut board = b;
-    board.channels[n] = c;
-    answering(placed, b, board)
+    match placed {
+        Placed::At(at) => {
+            let mut board = b;
+            board.channels[n] = c;
+            Answered {
+                answer: Answer::Place(at),
+                board,
+            }
+        }
+        Placed::Refused(refusal) => b.refuse(refusal),
+    }
 }
 
 // A call that changes nothing. Refusal 7 is given all the same.
@@ -61,5 +55,11 @@ fn untouched(b: Board, events: &mut [u8], place: usize) -> Answered
     ensures { λ r. ⌜ outcome r (now (events .exit)) ≡ untouched b (now (events .entry)) place ⌝ }
 {
     let placed = event::place_event(events, place, Event::Unchanged);
-    answering(placed, b, b)
+    match placed {
+        Placed::At(at) => Answered {
+            answer: Answer::Place(at),
+            board: b,
+        },
+        Placed::Refused(refusal) => b.refuse(refusal),
+    }
 }
