@@ -1,8 +1,9 @@
 -- An answer is known by document 01's number or values for it. Assumes nothing.
 use Prim.Native.Nat.{ℕ}
 use mathlib.Core.List.{List}
-use mathlib.Core.Path.{_≡_, refl, sym, ap, ap₂, _∙_}
+use mathlib.Core.Path.{_≡_, refl, ap, ap₂}
 use Rattle.refusal.specs.Reply.{Reply, refused, accepted}
+use Rattle.refusal.proofs.Apart.{apart-by}
 use Rattle.refusal.proofs.Numbered.{refusalNumbered, numbered-back}
 use Rattle.board.specs.declared.Board.{Board}
 use Rattle.board.specs.declared.Answered.{Answered}
@@ -40,7 +41,7 @@ answer-back (Retriggers answer) = refl
 answer-back (Dirty dirty counting ticked) = refl
 
 pub answers-apart : (a c : Answer) → replyOf a ≡ replyOf c → a ≡ c
-answers-apart a c e = sym (answer-back a) ∙ ap answerOf e ∙ answer-back c
+answers-apart = apart-by replyOf answerOf answer-back
 
 -- so a contract's equation leaves one answer, one board and one content of the lent bytes
 pub outcomes-apart : (r s : Answered) (before after : List ℕ) → outcome r before ≡ outcome s after → (r ≡ s) × (before ≡ after)

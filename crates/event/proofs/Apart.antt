@@ -1,7 +1,8 @@
 -- An answer is known by document 01's number or place for it. Assumes nothing.
 use Prim.Native.Nat.{ℕ}
-use mathlib.Core.Path.{_≡_, refl, sym, ap, _∙_}
+use mathlib.Core.Path.{_≡_, refl, ap}
 use Rattle.refusal.specs.Reply.{Reply, refused, accepted}
+use Rattle.refusal.proofs.Apart.{apart-by}
 use Rattle.refusal.proofs.Numbered.{refusalNumbered, numbered-back}
 use Rattle.event.specs.declared.Placed.{Placed}
 use Rattle.event.specs.declared.Placed.the-variants.{At, Refused}
@@ -16,4 +17,4 @@ placed-back (Refused refusal) = ap Refused (numbered-back refusal)
 placed-back (At place) = refl
 
 pub placed-apart : (p q : Placed) → placedReply p ≡ placedReply q → p ≡ q
-placed-apart p q e = sym (placed-back p) ∙ ap placedOf e ∙ placed-back q
+placed-apart = apart-by placedReply placedOf placed-back

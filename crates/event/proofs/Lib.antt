@@ -1,3 +1,4 @@
 pub mod Lists
 pub mod Written
 pub mod Apart
+pub mod Room

@@ -1,28 +1,42 @@
--- A data port is one of the three channels'. Assumes nothing.
+-- What a port number's tests come to: what holds of a data port, of the command port and of any other number holds of the port. Assumes nothing.
 use Prim.Native.Nat.{ℕ, _-_, _<_, _≤_}
 use mathlib.Core.Bool.{Bool, true, false, cond}
 use mathlib.Core.Path.{_≡_, refl, subst}
 use native.Mathlib.Omega.{arith}
 use lib.Dec.{ltb, eqb}
-use borrow.Author.Tests.{ltb-true, ltb-false}
+use borrow.Author.Tests.{ltb-true, ltb-false, eqb-true, eqb-false}
 use Rattle.ports.specs.declared.port.Port.{Port}
 use Rattle.ports.specs.declared.port.Port.the-variants.{Data, Command, Unknown}
 use Rattle.ports.specs.Port.{portOf}
+
+-- "0x40 to 0x43"
+abbrev pub InRange : ℕ → Type 0
+InRange port = (0x40 ≤ port) × (port ≤ 0x43)
+
+module _ (port : ℕ) (P : Port → Type 0) (unknown : (InRange port → ⊥) → P Unknown) (dataPort : (n : ℕ) → n < 3 → InRange port → P (Data n))
+    (command : InRange port → P Command) where
+  by-tests : (low isData isCommand : Bool) → ltb port 0x40 ≡ low → ltb port 0x43 ≡ isData → eqb port 0x43 ≡ isCommand
+      → P (cond low Unknown (cond isData (Data (port - 0x40)) (cond isCommand Command Unknown)))
+  by-tests true isData isCommand l d c = let below : port < 0x40 = ltb-true _ _ l in unknown (λ range. omega arith)
+  by-tests false true isCommand l d c =
+      let lowest : 0x40 ≤ port = ltb-false _ _ l in
+      let highest : port < 0x43 = ltb-true _ _ d in
+      dataPort (port - 0x40) (omega arith) (omega arith, omega arith)
+  by-tests false false true l d c = let is : port ≡ 0x43 = eqb-true _ _ c in command (omega arith, omega arith)
+  by-tests false false false l d c =
+      let past : 0x43 ≤ port = ltb-false _ _ d in
+      let other : port ≡ 0x43 → ⊥ = eqb-false _ _ c in
+      unknown (λ range. omega arith)
+
+  pub by-port : P (portOf port)
+  unfolding portOf
+  by-port = by-tests (ltb port 0x40) (ltb port 0x43) (eqb port 0x43) refl refl refl
 
 abbrev Reaches : Port → Type 0
 Reaches (Data n) = n < 3
 Reaches Command = Unit
 Reaches Unknown = Unit
 
-by-tests : (port : ℕ) (low isData command : Bool) → ltb port 0x40 ≡ low → ltb port 0x43 ≡ isData
-    → Reaches (cond low Unknown (cond isData (Data (port - 0x40)) (cond command Command Unknown)))
-by-tests port true isData command l d = tt
-by-tests port false true command l d =
-    let lowest : 0x40 ≤ port = ltb-false _ _ l in let highest : port < 0x43 = ltb-true _ _ d in omega arith
-by-tests port false false true l d = tt
-by-tests port false false false l d = tt
-
+-- a data port is one of the three channels'
 pub data-below : (port n : ℕ) → portOf port ≡ Data n → n < 3
-unfolding portOf
-data-below port n e =
-    subst Reaches e (by-tests port (ltb port 0x40) (ltb port 0x43) (eqb port 0x43) refl refl)
+data-below port n e = subst Reaches e (by-port port Reaches (λ out. tt) (λ k on range. on) (λ range. tt))

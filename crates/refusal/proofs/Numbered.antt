@@ -1,11 +1,12 @@
 -- Each refusal has a number of its own. Assumes nothing.
 use Prim.Native.Nat.{ℕ}
 use mathlib.Core.List.{[], _∷_}
-use mathlib.Core.Path.{_≡_, refl, sym, ap, _∙_}
+use mathlib.Core.Path.{_≡_, refl}
 use lib.ListN.{getD}
 use Rattle.refusal.specs.declared.Refusal.{Refusal}
 use Rattle.refusal.specs.declared.Refusal.the-variants.{PortUnknown, ChannelAbove2, DivisorZero, TicksBelowWarp, RemainderTooLarge, TooManyCounts, PlacePastEnd, NoRoom}
 use Rattle.refusal.specs.Refusal.{refusalNumber}
+use Rattle.refusal.proofs.Apart.{apart-by}
 
 -- no refusal has the number 0, or one above 8; some refusal stands there too
 abbrev pub refusalNumbered : ℕ → Refusal
@@ -26,4 +27,4 @@ numbered-back PlacePastEnd = refl
 numbered-back NoRoom = refl
 
 pub numbers-apart : (r s : Refusal) → refusalNumber r ≡ refusalNumber s → r ≡ s
-numbers-apart r s e = sym (numbered-back r) ∙ ap refusalNumbered e ∙ numbered-back s
+numbers-apart = apart-by refusalNumber refusalNumbered numbered-back

@@ -1,15 +1,11 @@
 -- A board has three channels, and every step leaves three. Assumes nothing.
 use Prim.Native.Nat.{ℕ}
 use mathlib.Core.Path.{_≡_, refl}
-use mathlib.Core.Bool.{Bool}
 use mathlib.Core.List.{List, [], _∷_}
 use lib.ListN.{length}
-use Rattle.refusal.specs.Reply.{Reply, refused, accepted}
 use Rattle.channel.specs.declared.PitType.{PitType}
-use Rattle.time.specs.Time.{Yield}
 use Rattle.board.specs.declared.Board.{Board}
 use Rattle.board.specs.Making.{fresh}
-use Rattle.clock.specs.Clock.{elapsed, yielding}
 use Rattle.step.specs.Operation.{Operation}
 use Rattle.step.specs.Step.{step, steps}
 use Rattle.step.proofs.Every.{every-step}
@@ -18,17 +14,12 @@ pub fresh-three : (model : PitType) (divisor : ℕ) → length (fresh model divi
 unfolding fresh
 fresh-three model divisor = refl
 
-time-three : (b : Board) → length (b .channels) ≡ 3 → (warp : ℕ) (defer : Bool) (made : Reply Yield)
-    → length (yielding b warp defer made .board .channels) ≡ 3
-time-three b three warp defer (refused number) = three
-time-three b three warp defer (accepted yield) = three
-
 pub step-three : (b : Board) → length (b .channels) ≡ 3 → (o : Operation) → length (step b o .board .channels) ≡ 3
 step-three b three o =
     every-step b (λ events ticks outcome. length (outcome .board .channels) ≡ 3)
     (λ events number. three)
     (λ events bytes value channels none fits keeps. keeps three)
-    (λ given warp defer. time-three b three warp defer (elapsed b given))
+    (λ given warp defer since. three)
     o
 
 pub steps-three : (b : Board) → length (b .channels) ≡ 3 → (os : List Operation) → length (steps b os .channels) ≡ 3

@@ -1,20 +1,15 @@
--- Document 01, "Time and reset": no system tick is lost and none is counted twice, over any list of operations. Assumes nothing.
-use Prim.Native.Nat.{ℕ, _+_, _-_, _*_}
+-- Document 01, "Time and reset": no system tick that is taken in is lost, over any list of operations. Assumes nothing.
+use Prim.Native.Nat.{ℕ, _+_, _*_}
 use mathlib.Core.Path.{_≡_, refl, sym, ap, _∙_}
-use mathlib.Core.Bool.{Bool}
 use mathlib.Core.List.{List, [], _∷_}
 use native.Mathlib.Nat.{mul-add, mul-zero, div-add-mod}
 use native.Mathlib.Omega.{arith}
-use lib.Dec.{ltb, eqb}
-use Rattle.refusal.specs.Reply.{Reply, refused}
-use Rattle.channel.proofs.Pick.{pick-holds}
-use Rattle.time.specs.Time.{Yield, summed, ticksFromTime}
+use Rattle.time.specs.Time.{summed}
 use Rattle.board.specs.declared.Board.{Board}
 use Rattle.board.specs.Outcome.{Outcome}
-use Rattle.clock.specs.Clock.{elapsed, yielding}
 use Rattle.step.specs.Operation.{Operation}
 use Rattle.step.specs.Step.{step, steps}
-use Rattle.step.specs.Time.{yielded, ifAccepted, taken, allYielded, allTaken}
+use Rattle.step.specs.Time.{yielded, taken, allYielded, allTaken}
 use Rattle.step.proofs.Every.{every-step}
 
 -- one operation: the divisor stays, and what it takes in is what it gives out or keeps
@@ -25,25 +20,12 @@ record Balanced (b : Board) (ticks : ℕ) (outcome : Outcome) : Type 0 where
 none-in : (b : Board) → b .divisor * 0 + b .remainder .0 ≡ b .remainder .0 + 0
 none-in b = simp mul-zero (omega arith)
 
--- "yields quotient by the divisor as timer ticks, keeps the rest"
-time-balanced : (b : Board) (given warp : ℕ) (defer : Bool)
-    → Balanced b (ifAccepted (yielding b warp defer (elapsed b given) .reply) (given - b .warp .0)) (yielding b warp defer (elapsed b given))
-unfolding ticksFromTime
-time-balanced b given warp defer =
-    let Fair : Reply Yield → Type 0 =
-    λ made. Balanced b (ifAccepted (yielding b warp defer made .reply) (given - b .warp .0)) (yielding b warp defer made) in
-    let sum : ℕ = summed given (b .warp .0) (b .remainder .0) in
-    let refusal : (number : ℕ) → Fair (refused number) = λ number. record { divisor-kept = refl; balance = none-in b } in
-    pick-holds Fair (eqb (b .divisor) 0) (refused 3) _ (refusal 3)
-    (pick-holds Fair (ltb given (b .warp .0)) (refused 4) _ (refusal 4)
-    (pick-holds Fair (ltb 4294967295 sum) (refused 5) _ (refusal 5) (record { divisor-kept = refl; balance = div-add-mod sum (b .divisor) })))
-
 step-balanced : (b : Board) (o : Operation) → Balanced b (taken b o) (step b o)
 step-balanced b o =
     every-step b (λ events ticks outcome. Balanced b ticks outcome)
     (λ events number. record { divisor-kept = refl; balance = none-in b })
     (λ events bytes value channels none fits three. record { divisor-kept = refl; balance = simp none (none-in b) })
-    (time-balanced b)
+    (λ given warp defer since. record { divisor-kept = refl; balance = div-add-mod (summed given (b .warp .0) (b .remainder .0)) (b .divisor) })
     o
 
 sums : (a b r s t v w : ℕ) → a + s ≡ r + v → b + t ≡ s + w → a + b + t ≡ r + (v + w)

@@ -1,6 +1,8 @@
 -- Document 01, "Time and reset": what a list of operations took in and gave out.
 use Prim.Native.Nat.{ℕ, _+_, _-_}
+use mathlib.Core.Bool.{Bool, true, false}
 use mathlib.Core.List.{List, [], _∷_}
+use mathlib.Core.Path.{_≡_}
 use Rattle.refusal.specs.Reply.{Reply, refused, accepted}
 use Rattle.board.specs.declared.Board.{Board}
 use Rattle.board.specs.Outcome.{Value, done, newPlace, byte, ticks, outputState, channelCount, retriggers, dirtyMarks, timerAccum}
@@ -53,3 +55,32 @@ allYielded b (o ∷ os) = yielded (step b o .reply) + allYielded (step b o .boar
 abbrev pub allTaken : Board → List Operation → ℕ
 allTaken b [] = 0
 allTaken b (o ∷ os) = taken b o + allTaken (step b o .board) os
+
+-- catch-up and run
+abbrev pub isTimeCall : Operation → Bool
+isTimeCall (WritePort port written events place) = false
+isTimeCall (ReadPort port) = false
+isTimeCall (SetChannelGate channel level events place) = false
+isTimeCall (Counts channel number) = false
+isTimeCall (LoadCycle channel) = false
+isTimeCall (CatchUp given) = true
+isTimeCall (Run given) = true
+isTimeCall Reset = false
+isTimeCall (GetOutputState channel) = false
+isTimeCall (GetChannelCount channel) = false
+isTimeCall (DoesChannelRetrigger channel) = false
+isTimeCall (IsDirty channel) = false
+isTimeCall GetTimerAccum = false
+
+-- what is no time call's to change: "keeps model ..., and keeps remainder, warp and defer flag"
+pub record TimeKept (before after : Board) : Type 0 where
+  pub model-kept : after .model ≡ before .model
+  pub divisor-kept : after .divisor ≡ before .divisor
+  pub remainder-kept : after .remainder ≡ before .remainder
+  pub warp-kept : after .warp ≡ before .warp
+  pub defer-kept : after .defer ≡ before .defer
+
+-- operations with no run among them
+abbrev pub NoRun : List Operation → Type 0
+NoRun [] = Unit
+NoRun (o ∷ os) = ((given : ℕ) → o ≡ Run given → ⊥) × NoRun os

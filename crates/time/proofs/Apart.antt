@@ -1,6 +1,7 @@
 -- An answer is known by document 01's number or values for it. Assumes nothing.
-use mathlib.Core.Path.{_≡_, refl, sym, ap, _∙_}
+use mathlib.Core.Path.{_≡_, refl, ap}
 use Rattle.refusal.specs.Reply.{Reply, refused, accepted}
+use Rattle.refusal.proofs.Apart.{apart-by}
 use Rattle.refusal.proofs.Numbered.{refusalNumbered, numbered-back}
 use Rattle.time.specs.declared.Passed.{Passed}
 use Rattle.time.specs.declared.Passed.the-variants.{Converted, Refused}
@@ -15,4 +16,4 @@ passed-back (Refused refusal) = ap Refused (numbered-back refusal)
 passed-back (Converted conversion) = refl
 
 pub passed-apart : (p q : Passed) → passedReply p ≡ passedReply q → p ≡ q
-passed-apart p q e = sym (passed-back p) ∙ ap passedOf e ∙ passed-back q
+passed-apart = apart-by passedReply passedOf passed-back
