@@ -1,6 +1,5 @@
 -- What the tests of a time call come to: it is refused, or the ticks are not below the warp and the sum is divided. Assumes nothing.
 use Prim.Native.Nat.{ℕ, _≤_}
-use mathlib.Core.Bool.{cond}
 use lib.Dec.{eqb, ltb}
 use borrow.Author.Tests.{ltb-false}
 use Rattle.refusal.specs.Reply.{Reply, refused, accepted}

@@ -20,6 +20,9 @@ Refuses (accepted value) = ⊥
 pub not-refused : {A : Type 0} (value : A) (k : ℕ) → accepted value ≡ refused k → ⊥
 not-refused value k e = subst Refuses (sym e) tt
 
+pub refused-not : {A : Type 0} (k : ℕ) (value : A) → refused k ≡ accepted value → ⊥
+refused-not k value e = not-refused value k (sym e)
+
 -- nothing is left to refuse
 pub accepts : {A : Type 0} (value : A) (k : ℕ) → (accepted value ≡ refused k) ↔ FirstOf [] k
 accepts value k = (not-refused value k, λ none. absurd none)

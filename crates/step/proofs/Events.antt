@@ -1,7 +1,7 @@
 -- Events cannot lie: an accepted port write or gate tells of the change of output level that it made, and where it tells of none it made
 -- none. That the board has three channels and that what is written is a byte stands as a premise. Assumes nothing.
-use Prim.Native.Nat.{ℕ, _+_, _-_, _<_, _≤_}
-use mathlib.Core.Bool.{Bool, true, false, cond, true≢false, false≢true}
+use Prim.Native.Nat.{ℕ, _+_, _<_, _≤_}
+use mathlib.Core.Bool.{Bool, true, false, true≢false, false≢true}
 use mathlib.Core.List.{List}
 use mathlib.Core.Logic.{inl, inr}
 use mathlib.Core.Path.{_≡_, refl, sym, ap, subst, _∙_}
@@ -20,8 +20,9 @@ use Rattle.control.specs.Control.{commandOf}
 use Rattle.control.proofs.Named.{named-below}
 use Rattle.event.specs.declared.Event.{Event}
 use Rattle.event.specs.declared.Event.the-variants.{Unchanged, Level}
-use Rattle.event.specs.Event.{Placing, eventAt, eventOf, placeEvent}
+use Rattle.event.specs.Event.{Placing, eventOf, placeEvent}
 use Rattle.event.specs.Written.{Written}
+use Rattle.event.proofs.Room.{by-unchanged, by-level}
 use Rattle.event.proofs.Written.{event-written}
 use Rattle.board.specs.declared.Board.{Board}
 use Rattle.board.specs.Board.{channelAt, withChannel}
@@ -36,6 +37,7 @@ use Rattle.ports.specs.Writes.{controlRegisterWrite, writeTo, writePort}
 use Rattle.step.specs.Operation.{WritePort, SetChannelGate}
 use Rattle.step.specs.Step.{step}
 use Rattle.gate.specs.Gate.{setGate}
+use Rattle.step.proofs.Deciding.{refused-not}
 use Rattle.step.specs.Events.{levelAt, NoEvent, OneEvent, Told, ToldBy}
 
 abbrev placeIn : Value → ℕ
@@ -53,40 +55,24 @@ abbrev valueIn : Reply Value → Value
 valueIn (refused number) = done
 valueIn (accepted value) = value
 
-abbrev Accepts : Reply Value → Type 0
-Accepts (refused number) = ⊥
-Accepts (accepted value) = Unit
-
-not-accepted : (k : ℕ) (value : Value) → refused k ≡ accepted value → ⊥
-not-accepted k value e = subst Accepts (sym e) tt
-
 -- the event writer's part: the new place, the bytes, and the new board taken
 abbrev PlacedAs : Event → List ℕ → ℕ → ℕ → Placing → Type 0
 PlacedAs Unchanged events place new placing = (new ≡ place) × (placing .bytes ≡ events) × ((b c : Board) → boardAfter (placing .reply) b c ≡ c)
 PlacedAs (Level n level) events place new placing =
     (new ≡ place + 2) × Written events (placing .bytes) place n level × ((b c : Board) → boardAfter (placing .reply) b c ≡ c)
 
-module _ (events : List ℕ) (place new : ℕ) where
-  unchanged-placed : (past : Bool) → let placing : Placing = cond past (record { reply = refused 7; bytes = events }) (record { reply = accepted place; bytes = events }) in
-      callReply (placing .reply) ≡ accepted (newPlace new) → PlacedAs Unchanged events place new placing
-  unchanged-placed true e = absurd (not-accepted 7 (newPlace new) e)
-  unchanged-placed false e = (sym (ap (λ (r : Reply Value). placeIn (valueIn r)) e), refl, λ b c. refl)
-
-  level-placed : (n : ℕ) (level past short : Bool) → ltb (length events) place ≡ past → ltb (length events - place) 2 ≡ short
-      → let placing : Placing = cond past (record { reply = refused 7; bytes = events })
-      (cond short (record { reply = refused 8; bytes = events }) (record { reply = accepted (place + 2); bytes = eventAt n level events place })) in
-      callReply (placing .reply) ≡ accepted (newPlace new) → PlacedAs (Level n level) events place new placing
-  level-placed n level true short p s e = absurd (not-accepted 7 (newPlace new) e)
-  level-placed n level false true p s e = absurd (not-accepted 8 (newPlace new) e)
-  level-placed n level false false p s e =
-      let inside : place ≤ length events = ltb-false _ _ p in
-      let room : 2 ≤ length events - place = ltb-false _ _ s in
-      (sym (ap (λ (r : Reply Value). placeIn (valueIn r)) e), event-written n level events place (omega arith), λ b c. refl)
-
-  placed : (event : Event) → callReply (placeEvent event events place .reply) ≡ accepted (newPlace new) → PlacedAs event events place new (placeEvent event events place)
-  unfolding placeEvent
-  placed Unchanged e = unchanged-placed (ltb (length events) place) e
-  placed (Level n level) e = level-placed n level (ltb (length events) place) (ltb (length events - place) 2) refl refl e
+placed : (events : List ℕ) (place new : ℕ) (event : Event) → callReply (placeEvent event events place .reply) ≡ accepted (newPlace new)
+    → PlacedAs event events place new (placeEvent event events place)
+placed events place new Unchanged =
+    by-unchanged events place (λ (p : Placing). callReply (p .reply) ≡ accepted (newPlace new) → PlacedAs Unchanged events place new p)
+    (λ past e. absurd (refused-not 7 (newPlace new) e))
+    (λ inside e. (sym (ap (λ (r : Reply Value). placeIn (valueIn r)) e), refl, λ b c. refl))
+placed events place new (Level n level) =
+    by-level events place (λ (p : Placing). callReply (p .reply) ≡ accepted (newPlace new) → PlacedAs (Level n level) events place new p)
+    (λ past e. absurd (refused-not 7 (newPlace new) e))
+    n level
+    (λ inside few e. absurd (refused-not 8 (newPlace new) e))
+    (λ room e. (sym (ap (λ (r : Reply Value). placeIn (valueIn r)) e), event-written n level events place room, λ b c. refl))
 
 -- a channel put at a place of the board: its level there, and the levels elsewhere
 module _ (b : Board) (three : length (b .channels) ≡ 3) (n : ℕ) (on : n < 3) (c : Channel) where
@@ -144,7 +130,7 @@ module _ (b : Board) (three : length (b .channels) ≡ 3) (n : ℕ) (on : n < 3)
 
 -- a new place is what such a call answers where it is accepted
 answers : (r : Reply ℕ) (value : Value) → callReply r ≡ accepted value → (new : ℕ) × (value ≡ newPlace new)
-answers (refused number) value e = absurd (not-accepted number value e)
+answers (refused number) value e = absurd (refused-not number value e)
 answers (accepted new) value e = (new, sym (ap valueIn e))
 
 -- a board's three channels, the lent bytes and the place, and what the call says
@@ -176,7 +162,7 @@ module _ (b : Board) (three : length (b .channels) ≡ 3) (events : List ℕ) (p
       → ToldBy b events place (writeTo b port x events place) value
   port-told number x small (Data n) is e = settled-told n (data-below number n is) _ e
   port-told number x small CommandPort is e = command-told x small (commandOf x) refl e
-  port-told number x small Unknown is e = absurd (not-accepted 1 value e)
+  port-told number x small Unknown is e = absurd (refused-not 1 value e)
 
   pub write-told : (port x : ℕ) → x < 256 → step b (WritePort port x events place) .reply ≡ accepted value
       → ToldBy b events place (step b (WritePort port x events place)) value
@@ -188,7 +174,7 @@ module _ (b : Board) (three : length (b .channels) ≡ 3) (events : List ℕ) (p
   unfolding setChannelGate
   gate-told n level =
       pick-knowing (λ (o : Outcome). o .reply ≡ accepted value → ToldBy b events place o value) (ltb 2 n) (refuse 2 b events) _
-      (λ above e. absurd (not-accepted 2 value e))
+      (λ above e. absurd (refused-not 2 value e))
       (λ on e.
       let h : n ≤ 2 = ltb-false 2 n on in
       settled-told n (omega arith) (setGate (channelAt b n) level) e)

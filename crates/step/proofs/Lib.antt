@@ -9,3 +9,6 @@ pub mod Events
 pub mod Lent
 pub mod Three
 pub mod Still
+pub mod Touched
+pub mod Kept
+pub mod Warp

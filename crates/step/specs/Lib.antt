@@ -4,3 +4,4 @@ pub mod Levels
 pub mod Refusals
 pub mod Time
 pub mod Events
+pub mod Touched

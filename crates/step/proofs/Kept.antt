@@ -1,0 +1,25 @@
+-- What a step keeps of the board besides its channels: model and divisor always, remainder, warp and defer flag but for catch-up and run. Assumes
+-- nothing.
+use mathlib.Core.Bool.{false}
+use mathlib.Core.Path.{_≡_, refl}
+use Rattle.board.specs.declared.Board.{Board}
+use Rattle.step.specs.Operation.{Operation}
+use Rattle.step.specs.Step.{step}
+use Rattle.step.specs.Time.{isTimeCall, TimeKept}
+use Rattle.step.proofs.Every.{every-other, every-step}
+
+pub time-kept : (b : Board) (o : Operation) → isTimeCall o ≡ false → TimeKept b (step b o .board)
+time-kept b o other =
+    every-other b (λ events ticks outcome. TimeKept b (outcome .board))
+    (λ events number. record { model-kept = refl; divisor-kept = refl; remainder-kept = refl; warp-kept = refl; defer-kept = refl })
+    (λ events bytes value channels none fits three. record { model-kept = refl; divisor-kept = refl; remainder-kept = refl; warp-kept = refl; defer-kept = refl })
+    o
+    other
+
+pub settings-kept : (b : Board) (o : Operation) → (step b o .board .model ≡ b .model) × (step b o .board .divisor ≡ b .divisor)
+settings-kept b o =
+    every-step b (λ events ticks outcome. (outcome .board .model ≡ b .model) × (outcome .board .divisor ≡ b .divisor))
+    (λ events number. (refl, refl))
+    (λ events bytes value channels none fits three. (refl, refl))
+    (λ given warp defer since. (refl, refl))
+    o
