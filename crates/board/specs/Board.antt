@@ -11,6 +11,7 @@ use Rattle.board.specs.declared.Board.{Board}
 abbrev pub channelAt : Board → ℕ → Channel
 channelAt b n = getD (b .channels) n blank
 
+-- "Struct update is written out."
 abbrev pub withChannels : Board → List Channel → Board
 withChannels b channels =
     record {
@@ -22,6 +23,7 @@ withChannels b channels =
       defer = b .defer;
     }
 
+-- one channel's record put at its place
 abbrev pub withChannel : Board → ℕ → Channel → Board
 withChannel b n c = withChannels b (set (b .channels) n c)
 

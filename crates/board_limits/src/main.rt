@@ -1,4 +1,5 @@
-// Runs the calls of a board at their limits, where document 01 asks for a run and not a theorem, and prints what each answers and leaves.
+// Runs the calls of a board at their limits and prints what each answers and leaves: counts, ticks at the warp and event room, of which
+// document 01 says "Run only", and beside them places at the end of the event bytes and the largest remainder.
 use board::Answer;
 use board::Board;
 use channel::PitType;
@@ -82,7 +83,7 @@ fn counts(number: u32) {
     say(b"\n");
 }
 
-// A catch-up to 100 first: the warp is then 100, with 4 ticks left of its 8 times 12.
+// A catch-up of 100 first: the warp is then 100, and 4 ticks are left beyond 8 times 12.
 fn warped() -> Board {
     let r = clock::catch_up(fresh(), SystemTicks(100));
     r.board

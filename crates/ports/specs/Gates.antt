@@ -8,5 +8,6 @@ use Rattle.board.specs.Board.{channelAt}
 use Rattle.board.specs.Outcome.{Outcome, onChannel}
 use Rattle.ports.specs.Settle.{settle}
 
+-- "In 000 a gate call above channel 2 returns silently; here the same outcome has number 2."
 unfoldable pub setChannelGate : Board → ℕ → Bool → List ℕ → ℕ → Outcome
 setChannelGate b n level events place = onChannel b n events (settle b n (setGate (channelAt b n) level) events place)

@@ -10,9 +10,11 @@ use Rattle.ports.specs.declared.port.Port.{Port}
 use Rattle.ports.specs.declared.port.Port.the-variants.{Data, Command, Unknown}
 use Rattle.ports.specs.Port.{portOf}
 
+-- the byte, and the record that the read leaves, at its place
 abbrev pub readInto : Board → ℕ → ByteRead → Outcome
 readInto b n r = accept (byte (r .byte)) (withChannel b n (r .channel))
 
+-- "Reads come from the output latch": the channel's own read (latch/specs/Reading.antt)
 abbrev pub dataRead : Board → ℕ → Outcome
 dataRead b n = readInto b n (readByte (channelAt b n))
 
@@ -22,5 +24,6 @@ readFrom b (Data n) = dataRead b n
 readFrom b Command = accept (byte 0) b
 readFrom b Unknown = refuse 1 b []
 
+-- Refusal 1: "port not 0x40 to 0x43"
 unfoldable pub readPort : Board → ℕ → Outcome
 readPort b port = readFrom b (portOf port)

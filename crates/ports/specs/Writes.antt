@@ -16,9 +16,11 @@ use Rattle.ports.specs.declared.port.Port.the-variants as port
 use Rattle.ports.specs.Port.{portOf}
 use Rattle.ports.specs.Settle.{settle, untouched}
 
+-- "Latching copies the counting element to the output latch": the channel's own latch; no event, but refusal 7
 abbrev pub latchCount : Board → ℕ → List ℕ → ℕ → Outcome
 latchCount b n events place = settle b n (channel.latchCount (channelAt b n)) events place
 
+-- the channel's own mode set, with the board's model
 abbrev pub setMode : Board → ℕ → ControlWord → List ℕ → ℕ → Outcome
 setMode b n word events place = settle b n (channelMode.setMode (channelAt b n) word (b .model)) events place
 
@@ -32,10 +34,12 @@ controlRegisterWrite b (SetMode n word) events place = setMode b n word events p
 abbrev pub dataWrite : Board → ℕ → ℕ → List ℕ → ℕ → Outcome
 dataWrite b n byte events place = settle b n (writeByte (channelAt b n) byte (b .defer)) events place
 
+-- a byte to the port that its number names
 abbrev pub writeTo : Board → Port → ℕ → List ℕ → ℕ → Outcome
 writeTo b (port.Data n) byte events place = dataWrite b n byte events place
 writeTo b port.Command byte events place = controlRegisterWrite b (commandOf byte) events place
 writeTo b port.Unknown byte events place = refuse 1 b events
 
+-- Refusal 1: "port not 0x40 to 0x43"
 unfoldable pub writePort : Board → ℕ → ℕ → List ℕ → ℕ → Outcome
 writePort b port byte events place = writeTo b (portOf port) byte events place

@@ -71,7 +71,7 @@ pub mode-level : (c : Channel) (word : ControlWord) (model : PitType) → setMod
 unfolding setMode
 mode-level c word model = refl
 
--- "a latch moves no output"
+-- a latch moves no output
 pub latch-level : (c : Channel) → latchCount c .pins .output ≡ c .pins .output
 unfolding latchCount
 latch-level c = refl

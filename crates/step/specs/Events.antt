@@ -10,6 +10,7 @@ use Rattle.board.specs.Board.{channelAt}
 use Rattle.board.specs.Outcome.{Outcome, Value, newPlace}
 use Rattle.step.specs.Operation.{Operation, WritePort, ReadPort, SetChannelGate, Counts, LoadCycle, CatchUp, Run, Reset, GetOutputState, GetChannelCount, DoesChannelRetrigger, IsDirty, GetTimerAccum}
 
+-- the output level of a channel of the board
 abbrev pub levelAt : Board → ℕ → Bool
 levelAt b n = channelAt b n .pins .output
 
@@ -28,6 +29,7 @@ pub record OneEvent (b : Board) (events : List ℕ) (place : ℕ) (outcome : Out
   pub changed : levelAt b channel ≡ levelAt (outcome .board) channel → ⊥
   pub others-stand : (m : ℕ) → (m ≡ channel → ⊥) → levelAt (outcome .board) m ≡ levelAt b m
 
+-- "The new place is the old plus 2, or the old if no event."
 abbrev pub Told : Board → List ℕ → ℕ → Outcome → ℕ → Type 0
 Told b events place outcome new = NoEvent b events place outcome new ⊎ OneEvent b events place outcome new
 

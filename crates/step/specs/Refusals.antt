@@ -1,4 +1,4 @@
--- Document 01, "Row numbers": the table's conditions, and the order in which a call tests them.
+-- Document 01, "Refusal numbers": the table's conditions, and the order in which a call tests them.
 use Prim.Native.Nat.{ℕ, _+_, _-_, _<_, _≤_}
 use mathlib.Core.Bool.{Bool}
 use mathlib.Core.List.{List, [], _∷_}
@@ -64,11 +64,13 @@ CommandDue b Nothing = ⊥
 CommandDue b (LatchCount n) = ⊥
 CommandDue b (SetMode n word) = Changes (channelAt b n .pins .output) (outputAfter (word .mode))
 
+-- whether a byte to a port makes an event due
 abbrev pub WriteDue : Board → Port → ℕ → Type 0
 WriteDue b (port.Data n) byte = Changes (channelAt b n .pins .output) (levelAfterWrite (channelAt b n))
 WriteDue b port.Command byte = CommandDue b (commandOf byte)
 WriteDue b port.Unknown byte = ⊥
 
+-- whether a gate level does
 abbrev pub GateDue : Board → ℕ → Bool → Type 0
 GateDue b n level = Changes (channelAt b n .pins .output) (levelAfterGate (channelAt b n) level)
 

@@ -9,6 +9,7 @@ use Rattle.board.specs.Outcome.{Value, done, newPlace, byte, ticks, outputState
 use Rattle.step.specs.Operation.{Operation, WritePort, ReadPort, SetChannelGate, Counts, LoadCycle, CatchUp, Run, Reset, GetOutputState, GetChannelCount, DoesChannelRetrigger, IsDirty, GetTimerAccum}
 use Rattle.step.specs.Step.{step}
 
+-- timer ticks in what an accepted call says
 abbrev pub ticksIn : Value → ℕ
 ticksIn done = 0
 ticksIn (newPlace p) = 0
