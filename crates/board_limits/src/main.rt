@@ -71,9 +71,9 @@ fn say_time(b: Board) {
 fn counts(number: u32) {
     say_number(b"counts ", number);
     say(b": ");
-    let mut b0 = fresh();
-    b0.channels[0].control.bcd_mode = true;
-    let r = b0.counts(0, number);
+    let mut start = fresh();
+    start.channels[0].control.bcd_mode = true;
+    let r = start.counts(0, number);
     let answer = r.answer;
     say_answer(answer);
     let b = r.board;

@@ -15,7 +15,7 @@ elapsed b given = ticksFromTime given (b .warp .0) (b .remainder .0) (b .divisor
 -- "yields quotient by the divisor as timer ticks, keeps the rest", and leaves this warp and defer flag
 abbrev pub yielding : Board → ℕ → Bool → Reply Yield → Outcome
 yielding b warp defer (refused number) = refuse number b []
-yielding b warp defer (accepted made) = accept (ticks (made .ticks)) (withTime b (made .left) warp defer)
+yielding b warp defer (accepted made) = accept (ticks (made .ticks)) (withTime b (made .remainder) warp defer)
 
 -- "Catch-up then sets the warp to its ticks and the defer flag to true"
 unfoldable pub catchUp : Board → ℕ → Outcome

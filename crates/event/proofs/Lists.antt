@@ -15,12 +15,12 @@ first-two (x ∷ []) a b h = absurd (omega arith)
 first-two (x ∷ y ∷ r) a b h = refl
 
 -- what is lent is the whole tail
-pub lent : (a : ℕ) (xs : List ℕ) → take (length xs - a) (drop a xs) ≡ drop a xs
-lent a xs = take-all (length xs - a) (drop a xs) (simp length-drop (omega arith))
+whole-tail : (a : ℕ) (xs : List ℕ) → take (length xs - a) (drop a xs) ≡ drop a xs
+whole-tail a xs = take-all (length xs - a) (drop a xs) (simp length-drop (omega arith))
 
 -- an event written at the front of the tail, seen from the whole
 pub event-back : (channel : ℕ) (level : Bool) (bytes : List ℕ) (place : ℕ) (tail : List ℕ) → place ≤ length bytes
     → tail ≡ firstTwo channel level (take (length bytes - place) (drop place bytes))
     → putMid place (length bytes - place) bytes tail ≡ eventAt channel level bytes place
 event-back channel level bytes place tail h e =
-    simp (post-is place (length bytes) bytes h, drop-length, append-nil) (simp (e, lent))
+    simp (post-is place (length bytes) bytes h, drop-length, append-nil) (simp (e, whole-tail))

@@ -9,7 +9,7 @@ use Rattle.time.specs.Time.{Yield, passedReply}
 
 abbrev passedOf : Reply Yield → Passed
 passedOf (refused number) = Refused (refusalNumbered number)
-passedOf (accepted made) = Converted (record { ticks = record { 0 = made .ticks }; remainder = record { 0 = made .left } })
+passedOf (accepted made) = Converted (record { ticks = record { 0 = made .ticks }; remainder = record { 0 = made .remainder } })
 
 passed-back : (p : Passed) → passedOf (passedReply p) ≡ p
 passed-back (Refused refusal) = ap Refused (numbered-back refusal)

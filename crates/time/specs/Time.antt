@@ -11,11 +11,11 @@ use Rattle.time.specs.declared.Passed.the-variants.{Converted, Refused}
 -- timer ticks yielded, and the system ticks kept
 pub record Yield : Type 0 where
   pub ticks : ℕ
-  pub left : ℕ
+  pub remainder : ℕ
 
 -- "yields quotient by the divisor as timer ticks, keeps the rest"
 abbrev pub converted : ℕ → ℕ → Yield
-converted sum divisor = record { ticks = sum / divisor; left = sum % divisor }
+converted sum divisor = record { ticks = sum / divisor; remainder = sum % divisor }
 
 -- "A catch-up or run adds ticks minus warp to the remainder"
 abbrev pub summed : ℕ → ℕ → ℕ → ℕ
@@ -30,7 +30,7 @@ ticksFromTime ticks warp remainder divisor =
 
 -- document 01's number or values for each answer of the code
 abbrev pub conversion : Conversion → Yield
-conversion c = record { ticks = c .ticks .0; left = c .remainder .0 }
+conversion c = record { ticks = c .ticks .0; remainder = c .remainder .0 }
 
 abbrev pub passedReply : Passed → Reply Yield
 passedReply (Converted c) = accepted (conversion c)
