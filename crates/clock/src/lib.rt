@@ -7,22 +7,15 @@ use time::SystemTicks;
 ghost use mathlib.Core.Path.{_≡_};
 ghost use mathlib.Core.List.{[]};
 ghost use Rattle.board.specs.Answer.{outcome};
-ghost use Rattle.time.specs.Time.{passedReply};
 ghost use Rattle.clock.specs.Clock.{elapsed, yielding, catchUp, run};
-
-fn pass(b: Board, ticks: SystemTicks) -> Passed
-    ensures { λ r. ⌜ passedReply r ≡ elapsed b (ticks .0) ⌝ }
-{
-    let warp = b.warp;
-    let remainder = b.remainder;
-    time::ticks_from_time(ticks, warp, remainder, b.divisor)
-}
 
 // The ticks yielded, and the board with the rest, this warp and this defer flag. Refusals 3, 4 and 5.
 fn elapse(b: Board, ticks: SystemTicks, warp: SystemTicks, defer: bool) -> Answered
     ensures { λ r. ⌜ outcome r [] ≡ yielding b (warp .0) defer (elapsed b (ticks .0)) ⌝ }
 {
-    let passed = pass(b, ticks);
+    let since = b.warp;
+    let kept = b.remainder;
+    let passed = time::ticks_from_time(ticks, since, kept, b.divisor);
     match passed {
         Passed::Refused(refusal) => b.refuse(refusal),
         Passed::Converted(conversion) => {

@@ -36,9 +36,10 @@ use Rattle.ports.specs.Gates.{setChannelGate}
 use Rattle.ports.specs.Writes.{controlRegisterWrite, writeTo, writePort}
 use Rattle.step.specs.Operation.{WritePort, SetChannelGate}
 use Rattle.step.specs.Step.{step}
+use Rattle.step.specs.Levels.{levelAt}
 use Rattle.gate.specs.Gate.{setGate}
 use Rattle.step.proofs.Deciding.{refused-not}
-use Rattle.step.specs.Events.{levelAt, NoEvent, OneEvent, Told, ToldBy}
+use Rattle.step.specs.Events.{NoEvent, OneEvent, Told, ToldBy}
 
 abbrev placeIn : Value → ℕ
 placeIn done = 0

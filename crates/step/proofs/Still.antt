@@ -1,13 +1,12 @@
 -- Of the other operations none moves an output, but a reset, which raises no event. Assumes nothing.
 use Prim.Native.Nat.{ℕ, zero, suc, _<_, _≤_}
-use mathlib.Core.Bool.{Bool, true, false, true≢false}
+use mathlib.Core.Bool.{true, false, true≢false}
 use mathlib.Core.List.{[]}
 use mathlib.Core.Path.{_≡_, refl, ap, _∙_}
 use native.Mathlib.Omega.{arith}
 use lib.Dec.{ltb}
 use lib.ListN.{length}
 use borrow.Author.Tests.{ltb-false}
-use Rattle.refusal.specs.Reply.{Reply, refused, accepted}
 use Rattle.numbers.specs.Times.{times}
 use Rattle.channel.specs.declared.Channel.{Channel}
 use Rattle.channel.specs.declared.Pins.{Pins}
@@ -16,13 +15,11 @@ use Rattle.channel.proofs.Pick.{pick-holds, pick-knowing}
 use Rattle.count.specs.Count.{count}
 use Rattle.latch.specs.Reading.{readByte}
 use Rattle.load.proofs.Stays.{pins-stay}
-use Rattle.time.specs.Time.{Yield}
 use Rattle.board.specs.declared.Board.{Board}
 use Rattle.board.specs.Board.{channelAt, withChannel}
-use Rattle.board.specs.Outcome.{Outcome, Value, refuse, accept, onChannel}
+use Rattle.board.specs.Outcome.{Outcome, refuse, onChannel}
 use Rattle.board.specs.Counting.{counts, loadCycle}
-use Rattle.board.specs.Queries.{getOutputState, getChannelCount, doesChannelRetrigger, isDirty}
-use Rattle.clock.specs.Clock.{elapsed, yielding, catchUp, run}
+use Rattle.board.specs.Queries.{isDirty}
 use Rattle.ports.specs.declared.port.Port.{Port}
 use Rattle.ports.specs.declared.port.Port.the-variants.{Data, Command, Unknown}
 use Rattle.ports.specs.Port.{portOf}
@@ -30,8 +27,11 @@ use Rattle.ports.proofs.Below.{data-below}
 use Rattle.ports.specs.Reads.{readFrom, readPort}
 use Rattle.step.specs.Operation.{Operation, WritePort, ReadPort, SetChannelGate, Counts, LoadCycle, CatchUp, Run, Reset, GetOutputState, GetChannelCount, DoesChannelRetrigger, IsDirty, GetTimerAccum}
 use Rattle.step.specs.Step.{step}
-use Rattle.step.specs.Events.{levelAt, mayMove}
+use Rattle.step.specs.Levels.{levelAt}
+use Rattle.step.specs.Events.{mayMove}
+use Rattle.step.specs.Touched.{Touches}
 use Rattle.step.proofs.Events.{all-stand}
+use Rattle.step.proofs.Touched.{untouched-stays}
 
 count-pins : (c : Channel) → count c .pins ≡ c .pins
 unfolding count putElement
@@ -56,8 +56,9 @@ module _ (b : Board) (three : length (b .channels) ≡ 3) (m : ℕ) where
   put-still : (n : ℕ) → n < 3 → (c : Channel) → c .pins ≡ channelAt b n .pins → levelAt (withChannel b n c) m ≡ levelAt b m
   put-still n on c same = all-stand b three n on c (ap (λ (p : Pins). p .output) same) m
 
-  query-still : (n : ℕ) (value : Value) → Still (onChannel b n [] (accept value b))
-  query-still n value = on-channel n (accept value b) (λ on. refl)
+  -- an operation that leaves this channel's record leaves its output
+  stays-still : (o : Operation) → (Touches o m → ⊥) → levelAt (step b o .board) m ≡ levelAt b m
+  stays-still o other = ap (λ (c : Channel). c .pins .output) (untouched-stays b m o other)
 
   read-still : (number : ℕ) (port : Port) → portOf number ≡ port → Still (readFrom b port)
   read-still number (Data n) is = put-still n (data-below number n is) (readByte (channelAt b n) .channel) (read-pins (channelAt b n))
@@ -72,22 +73,18 @@ module _ (b : Board) (three : length (b .channels) ≡ 3) (m : ℕ) where
       pick-holds Still (ltb 65536 number) (refuse 6 b []) _ refl
       (put-still n on (times number count (channelAt b n)) (counts-pins number (channelAt b n))))
 
-  time-still : (warp : ℕ) (defer : Bool) (made : Reply Yield) → Still (yielding b warp defer made)
-  time-still warp defer (refused number) = refl
-  time-still warp defer (accepted yield) = refl
-
   pub others-still : (o : Operation) → mayMove o ≡ false → levelAt (step b o .board) m ≡ levelAt b m
-  unfolding readPort loadCycle catchUp run getOutputState getChannelCount doesChannelRetrigger isDirty
+  unfolding readPort loadCycle isDirty
   others-still (WritePort port x events place) moves = absurd (true≢false moves)
   others-still (ReadPort port) moves = read-still port (portOf port) refl
   others-still (SetChannelGate n level events place) moves = absurd (true≢false moves)
   others-still (Counts n number) moves = counts-still n number
   others-still (LoadCycle n) moves = on-channel n _ (λ on. put-still n on _ (pins-stay (channelAt b n)))
-  others-still (CatchUp given) moves = time-still given true (elapsed b given)
-  others-still (Run given) moves = time-still 0 (b .defer) (elapsed b given)
+  others-still (CatchUp given) moves = stays-still (CatchUp given) (λ none. none)
+  others-still (Run given) moves = stays-still (Run given) (λ none. none)
   others-still Reset moves = absurd (true≢false moves)
-  others-still (GetOutputState n) moves = query-still n _
-  others-still (GetChannelCount n) moves = query-still n _
-  others-still (DoesChannelRetrigger n) moves = query-still n _
+  others-still (GetOutputState n) moves = stays-still (GetOutputState n) (λ none. none)
+  others-still (GetChannelCount n) moves = stays-still (GetChannelCount n) (λ none. none)
+  others-still (DoesChannelRetrigger n) moves = stays-still (DoesChannelRetrigger n) (λ none. none)
   others-still (IsDirty n) moves = on-channel n _ (λ on. put-still n on _ refl)
-  others-still GetTimerAccum moves = refl
+  others-still GetTimerAccum moves = stays-still GetTimerAccum (λ none. none)

@@ -6,13 +6,9 @@ use mathlib.Core.Logic.{_⊎_}
 use mathlib.Core.Path.{_≡_}
 use Rattle.event.specs.Written.{Written}
 use Rattle.board.specs.declared.Board.{Board}
-use Rattle.board.specs.Board.{channelAt}
 use Rattle.board.specs.Outcome.{Outcome, Value, newPlace}
+use Rattle.step.specs.Levels.{levelAt}
 use Rattle.step.specs.Operation.{Operation, WritePort, ReadPort, SetChannelGate, Counts, LoadCycle, CatchUp, Run, Reset, GetOutputState, GetChannelCount, DoesChannelRetrigger, IsDirty, GetTimerAccum}
-
--- the output level of a channel of the board
-abbrev pub levelAt : Board → ℕ → Bool
-levelAt b n = channelAt b n .pins .output
 
 -- "the old if no event": every output stands where it stood, and no byte changes
 pub record NoEvent (b : Board) (events : List ℕ) (place : ℕ) (outcome : Outcome) (new : ℕ) : Type 0 where

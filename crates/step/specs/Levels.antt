@@ -1,5 +1,6 @@
 -- What document 01 says of the output's level after a data write and after a gate level, in one place and apart from the rules that make up a
 -- step; proofs/Levels.antt ties the two. After a mode set it is that rule's own row, `outputAfter`.
+use Prim.Native.Nat.{ℕ}
 use mathlib.Core.Bool.{Bool, true, false, cond}
 use Rattle.channel.specs.declared.Channel.{Channel}
 use Rattle.channel.specs.declared.LoadState.{LoadState}
@@ -8,6 +9,12 @@ use Rattle.channel.specs.declared.RwMode.{RwMode}
 use Rattle.channel.specs.declared.RwMode.the-variants.{Lsb, Msb, LsbMsb}
 use Rattle.channel.specs.Modes.{byMode}
 use Rattle.gate.specs.Gate.{waitsForReload}
+use Rattle.board.specs.declared.Board.{Board}
+use Rattle.board.specs.Board.{channelAt}
+
+-- the output level of a channel of the board
+abbrev pub levelAt : Board → ℕ → Bool
+levelAt b n = channelAt b n .pins .output
 
 -- the byte that is written is "the low byte of a two-byte load"
 abbrev pub lowOfTwo : RwMode → LoadState → Bool

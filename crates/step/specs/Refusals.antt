@@ -15,7 +15,7 @@ use Rattle.ports.specs.declared.port.Port.{Port}
 use Rattle.ports.specs.declared.port.Port.the-variants as port
 use Rattle.ports.specs.Port.{portOf}
 use Rattle.step.specs.Operation.{Operation, WritePort, ReadPort, SetChannelGate, Counts, LoadCycle, CatchUp, Run, Reset, GetOutputState, GetChannelCount, DoesChannelRetrigger, IsDirty, GetTimerAccum}
-use Rattle.step.specs.Levels.{levelAfterWrite, levelAfterGate}
+use Rattle.step.specs.Levels.{levelAt, levelAfterWrite, levelAfterGate}
 
 -- a number of the table, and its "Given exactly when"
 pub record Row : Type 1 where
@@ -62,17 +62,17 @@ Changes was is = was ≡ is → ⊥
 abbrev pub CommandDue : Board → Command → Type 0
 CommandDue b Nothing = ⊥
 CommandDue b (LatchCount n) = ⊥
-CommandDue b (SetMode n word) = Changes (channelAt b n .pins .output) (outputAfter (word .mode))
+CommandDue b (SetMode n word) = Changes (levelAt b n) (outputAfter (word .mode))
 
 -- whether a byte to a port makes an event due
 abbrev pub WriteDue : Board → Port → ℕ → Type 0
-WriteDue b (port.Data n) byte = Changes (channelAt b n .pins .output) (levelAfterWrite (channelAt b n))
+WriteDue b (port.Data n) byte = Changes (levelAt b n) (levelAfterWrite (channelAt b n))
 WriteDue b port.Command byte = CommandDue b (commandOf byte)
 WriteDue b port.Unknown byte = ⊥
 
 -- whether a gate level does
 abbrev pub GateDue : Board → ℕ → Bool → Type 0
-GateDue b n level = Changes (channelAt b n .pins .output) (levelAfterGate (channelAt b n) level)
+GateDue b n level = Changes (levelAt b n) (levelAfterGate (channelAt b n) level)
 
 -- "7, 8"
 abbrev pub roomOrder : Type 0 → List ℕ → ℕ → List Row

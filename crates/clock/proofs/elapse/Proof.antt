@@ -6,10 +6,10 @@ use Rattle.clock.proofs.elapse.Statement.{statement}
 use Rattle.clock.proofs.elapse.Tie as tie
 
 returns : tie.Need-returns
-returns c = simp (c .refuse .ensures, sym (c .before .before .before .before .pass .ensures) ∙ ap passedReply (c .before .before .passed .given .1))
+returns c = simp (c .refuse .ensures, sym (c .before .before .before .before .ticks-from-time .ensures) ∙ ap passedReply (c .before .before .passed .given .1))
 
 returns-2 : tie.Need-returns-2
-returns-2 c = simp (sym (c .before .before .before .before .before .pass .ensures) ∙ ap passedReply (c .before .before .before .passed2 .given .1))
+returns-2 c = simp (sym (c .before .before .before .before .before .ticks-from-time .ensures) ∙ ap passedReply (c .before .before .before .passed2 .given .1))
 
 pub elapse-spec : {M : Type 1} → statement M
 elapse-spec =
