@@ -1,3 +1,4 @@
 pub mod Below
 pub mod Modulo
 pub mod Digits
+pub mod Times

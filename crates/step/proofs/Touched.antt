@@ -56,7 +56,7 @@ module _ (b : Board) (m : ℕ) where
   command-stays (LatchCount n) events place other = settle-stays n _ events place other
   command-stays (SetMode n word) events place other = settle-stays n _ events place other
 
-  write-stays : (port : Port) (byte : ℕ) (events : List ℕ) (place : ℕ) → (WriteTouches port byte m → ⊥) → Stays (writeTo b port byte events place)
+  pub write-stays : (port : Port) (byte : ℕ) (events : List ℕ) (place : ℕ) → (WriteTouches port byte m → ⊥) → Stays (writeTo b port byte events place)
   write-stays (Data n) byte events place other = settle-stays n _ events place other
   write-stays CommandPort byte events place other = command-stays (commandOf byte) events place other
   write-stays Unknown byte events place other = refl

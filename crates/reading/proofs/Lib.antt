@@ -1,0 +1,10 @@
+pub mod Counted
+pub mod Spelling
+pub mod Stands
+pub mod Holds
+pub mod Passing
+pub mod Listed
+pub mod Turns
+pub mod Run
+pub mod ThreeCalls
+pub mod Promise

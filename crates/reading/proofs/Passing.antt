@@ -1,0 +1,149 @@
+-- What may pass makes the counts that it says on channel i, and no others. Assumes nothing.
+use Prim.Native.Nat.{ℕ, _<_, _≤_}
+use mathlib.Core.Bool.{Bool, true, false, cond}
+use mathlib.Core.List.{List, [], _∷_}
+use mathlib.Core.Path.{_≡_, refl, sym, ap, subst, _∙_}
+use native.Mathlib.Omega.{arith}
+use lib.Dec.{ltb, eqb}
+use lib.ListN.{length}
+use lib.Seq.{getD-set-same}
+use borrow.Author.Tests.{eqb-true, eqb-false, le-ltb}
+use Rattle.refusal.specs.Reply.{Reply, refused, accepted}
+use Rattle.numbers.specs.Times.{times}
+use Rattle.channel.specs.declared.Channel.{Channel}
+use Rattle.channel.specs.Blank.{blank}
+use Rattle.channel.proofs.Pick.{pick-holds}
+use Rattle.count.specs.Count.{count}
+use Rattle.load.specs.Write.{writeByte}
+use Rattle.load.proofs.Keeps.{write-keeps}
+use Rattle.gate.specs.Gate.{setGate}
+use Rattle.gate.proofs.Keeps.{gate-keeps}
+use Rattle.event.specs.Event.{placeEvent}
+use Rattle.board.specs.declared.Board.{Board}
+use Rattle.board.specs.Board.{channelAt, withChannel}
+use Rattle.board.specs.Outcome.{Outcome, Value, done, refuse, accept, onChannel}
+use Rattle.board.specs.Counting.{counts}
+use Rattle.board.specs.Queries.{isDirty}
+use Rattle.ports.specs.declared.port.Port.{Port}
+use Rattle.ports.specs.declared.port.Port.the-variants.{Data, Command, Unknown}
+use Rattle.ports.specs.Port.{portOf}
+use Rattle.ports.specs.Settle.{boardAfter, levelEvent, settle}
+use Rattle.ports.specs.Gates.{setChannelGate}
+use Rattle.ports.specs.Writes.{writeTo, writePort}
+use Rattle.step.specs.Operation.{Operation, WritePort, ReadPort, SetChannelGate, Counts, LoadCycle, CatchUp, Run, Reset, GetOutputState, GetChannelCount, DoesChannelRetrigger, IsDirty, GetTimerAccum}
+use Rattle.step.specs.Step.{step, steps}
+use Rattle.step.specs.Touched.{Touches}
+use Rattle.step.proofs.Deciding.{refused-not}
+use Rattle.step.proofs.Three.{step-three}
+use Rattle.step.proofs.Touched.{write-stays, untouched-stays}
+use Rattle.reading.specs.Passing.{MayWrite, MayPass, AllMayPass}
+use Rattle.reading.specs.Run.{AllAccepted, countsIn, countsOn}
+use Rattle.reading.proofs.Counted.{Counted, counted-none, counted-kept, counted-then, counted-counts}
+
+-- channel n is the one that is read, or another
+by-same : (i n : ℕ) (P : Type 0) → (n ≡ i → P) → ((i ≡ n → ⊥) → P) → P
+by-same i n P same other = go (eqb n i) refl
+  where
+    go : (b : Bool) → eqb n i ≡ b → P
+    go true e = same (eqb-true n i e)
+    go false e = other (λ is. eqb-false n i e (sym is))
+
+module _ (b : Board) (three : length (b .channels) ≡ 3) (i : ℕ) (on : i < 3) where
+  abbrev After : ℕ → Outcome → Type 0
+  After k outcome = Counted k (channelAt b i) (channelAt (outcome .board) i)
+
+  pub put-found : (c : Channel) → channelAt (withChannel b i c) i ≡ c
+  put-found c = getD-set-same (b .channels) i c blank (rw three on)
+
+  put-counted : (k : ℕ) (c : Channel) → Counted k (channelAt b i) c → Counted k (channelAt b i) (channelAt (withChannel b i c) i)
+  put-counted k c p = subst (λ (d : Channel). Counted k (channelAt b i) d) (sym (put-found c)) p
+
+  stays-counted : (outcome : Outcome) → channelAt (outcome .board) i ≡ channelAt b i → After 0 outcome
+  stays-counted outcome stays = subst (λ (d : Channel). Counted 0 (channelAt b i) d) (sym stays) (counted-none (channelAt b i))
+
+  leaves : (o : Operation) → (Touches o i → ⊥) → After 0 (step b o)
+  leaves o other = stays-counted (step b o) (untouched-stays b i o other)
+
+  after-counted : (reply : Reply ℕ) (new : Board) → Counted 0 (channelAt b i) (channelAt new i)
+      → Counted 0 (channelAt b i) (channelAt (boardAfter reply b new) i)
+  after-counted (refused number) new p = counted-none (channelAt b i)
+  after-counted (accepted place) new p = p
+
+  settled : (c : Channel) (events : List ℕ) (place : ℕ) → Counted 0 (channelAt b i) c → After 0 (settle b i c events place)
+  unfolding settle
+  settled c events place p = after-counted (placeEvent (levelEvent i (channelAt b i) c) events place .reply) (withChannel b i c) (put-counted 0 c p)
+
+  on-channel : (events : List ℕ) (outcome : Outcome) → After 0 outcome → After 0 (onChannel b i events outcome)
+  on-channel events outcome = pick-holds (After 0) (ltb 2 i) (refuse 2 b events) outcome (counted-none (channelAt b i))
+
+  write-passes : (port : Port) (byte : ℕ) (events : List ℕ) (place : ℕ) → MayWrite i port byte → After 0 (writeTo b port byte events place)
+  write-passes (Data n) byte events place may =
+      by-same i n (After 0 (writeTo b (Data n) byte events place))
+      (λ same.
+      subst (λ (m : ℕ). After 0 (writeTo b (Data m) byte events place)) (sym same)
+      (settled (writeByte (channelAt b i) byte (b .defer)) events place (counted-kept (write-keeps (channelAt b i) byte (b .defer)))))
+      (λ other. stays-counted (writeTo b (Data n) byte events place) (write-stays b i (Data n) byte events place other))
+  write-passes Command byte events place may = stays-counted (writeTo b Command byte events place) (write-stays b i Command byte events place may)
+  write-passes Unknown byte events place may = stays-counted (writeTo b Unknown byte events place) (write-stays b i Unknown byte events place (λ none. none))
+
+  gate-passes : (n : ℕ) (level : Bool) (events : List ℕ) (place : ℕ) → After 0 (setChannelGate b n level events place)
+  unfolding setChannelGate
+  gate-passes n level events place =
+      by-same i n (After 0 (setChannelGate b n level events place))
+      (λ same.
+      subst (λ (m : ℕ). After 0 (setChannelGate b m level events place)) (sym same)
+      (on-channel events _ (settled (setGate (channelAt b i) level) events place (counted-kept (gate-keeps (channelAt b i) level)))))
+      (λ other. leaves (SetChannelGate n level events place) other)
+
+  dirty-passes : (n : ℕ) → After 0 (isDirty b n)
+  unfolding isDirty
+  dirty-passes n =
+      by-same i n (After 0 (isDirty b n))
+      (λ same.
+      subst (λ (m : ℕ). After 0 (isDirty b m)) (sym same)
+      (on-channel [] _ (put-counted 0 _ (record { same-control = refl; stepped = refl; same-half = refl; same-latched = refl; still-held = λ held. refl }))))
+      (λ other. leaves (IsDirty n) other)
+
+  -- the counts of an accepted call are all made
+  counts-made : (number : ℕ) (over : Bool) (value : Value)
+      → cond over (refuse 6 b []) (accept done (withChannel b i (times number count (channelAt b i)))) .reply ≡ accepted value
+      → After number (cond over (refuse 6 b []) (accept done (withChannel b i (times number count (channelAt b i)))))
+  counts-made number true value took = absurd (refused-not 6 value took)
+  counts-made number false value took = put-counted number _ (counted-counts number (channelAt b i))
+
+  counts-here : (number : ℕ) (value : Value) → counts b i number .reply ≡ accepted value → After number (counts b i number)
+  unfolding counts
+  counts-here number value took =
+      let h : i ≤ 2 = omega arith in
+      rw (le-ltb 2 i h) (counts-made number (ltb 65536 number) value (rw (le-ltb 2 i h) at took))
+
+  counts-passes : (n number : ℕ) (same : Bool) → eqb n i ≡ same → (value : Value) → counts b n number .reply ≡ accepted value
+      → After (cond same number 0) (counts b n number)
+  counts-passes n number true e value took =
+      let is : n ≡ i = eqb-true n i e in
+      subst (λ (m : ℕ). After number (counts b m number)) (sym is)
+      (counts-here number value (subst (λ (m : ℕ). counts b m number .reply ≡ accepted value) is took))
+  counts-passes n number false e value took = leaves (Counts n number) (λ is. eqb-false n i e (sym is))
+
+  pub passes : (o : Operation) → MayPass i o → (value : Value) × (step b o .reply ≡ accepted value) → After (countsIn i o) (step b o)
+  unfolding writePort
+  passes (WritePort port byte events place) may took = write-passes (portOf port) byte events place may
+  passes (ReadPort port) may took = leaves (ReadPort port) may
+  passes (SetChannelGate n level events place) may took = gate-passes n level events place
+  passes (Counts n number) may took = counts-passes n number (eqb n i) refl (took .0) (took .1)
+  passes (LoadCycle n) may took = leaves (LoadCycle n) may
+  passes (CatchUp given) may took = leaves (CatchUp given) (λ none. none)
+  passes (Run given) may took = leaves (Run given) (λ none. none)
+  passes Reset may took = absurd may
+  passes (GetOutputState n) may took = leaves (GetOutputState n) (λ none. none)
+  passes (GetChannelCount n) may took = leaves (GetChannelCount n) (λ none. none)
+  passes (DoesChannelRetrigger n) may took = leaves (DoesChannelRetrigger n) (λ none. none)
+  passes (IsDirty n) may took = dirty-passes n
+  passes GetTimerAccum may took = leaves GetTimerAccum (λ none. none)
+
+pub all-pass : (b : Board) → length (b .channels) ≡ 3 → (i : ℕ) → i < 3 → (os : List Operation) → AllMayPass i os → AllAccepted b os
+    → Counted (countsOn i os) (channelAt b i) (channelAt (steps b os) i)
+all-pass b three i on [] may took = counted-none (channelAt b i)
+all-pass b three i on (o ∷ os) may took =
+    counted-then (countsIn i o) (countsOn i os) (passes b three i on o (may .0) (took .0))
+    (all-pass (step b o .board) (step-three b three o) i on os (may .1) (took .1))

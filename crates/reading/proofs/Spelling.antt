@@ -1,0 +1,64 @@
+-- What is left of v after n counts: the counting element after n steps, and different for different n below the modulus. Assumes nothing.
+use Prim.Native.Nat.{ℕ, _+_, _*_, _/_, _%_, _<_}
+use mathlib.Core.Bool.{Bool, true, false, false≢true}
+use mathlib.Core.Path.{_≡_, refl, sym, ap, _∙_}
+use native.Mathlib.Omega.{arith}
+use Rattle.numbers.specs.Modulo.{minusMod}
+use Rattle.numbers.specs.Digits.{GoodDigits, weight, packed}
+use Rattle.numbers.specs.Times.{times}
+use Rattle.numbers.proofs.Modulo.{below, again, apart}
+use Rattle.numbers.proofs.Digits.{weight-packed, packed-below, good-packed}
+use Rattle.count.specs.Step.{stepIn}
+use Rattle.count.proofs.Repeated.{binary-times, decimal-times}
+use Rattle.refusal.specs.Reply.{Reply, refused, accepted}
+use Rattle.board.specs.Outcome.{Value, done, newPlace, byte, ticks, outputState, channelCount, retriggers, dirtyMarks, timerAccum}
+use Rattle.reading.specs.Spelling.{modulus, remaining, Spells}
+
+pub steps-left : (bcd : Bool) (n v : ℕ) → v < 65536 → (bcd ≡ true → GoodDigits v) → times n (stepIn bcd) v ≡ remaining bcd v n
+steps-left false n v h good = binary-times n v h
+steps-left true n v h good = decimal-times n v h (good refl)
+
+-- what is left is a count in the same radix, and from it k more counts leave what n + k leave
+pub left-below : (bcd : Bool) (v n : ℕ) → remaining bcd v n < 65536
+left-below false v n = below 65536 v n (omega arith)
+left-below true v n = packed-below (minusMod 10000 (weight v) n)
+
+pub left-good : (bcd : Bool) (v n : ℕ) → bcd ≡ true → GoodDigits (remaining bcd v n)
+left-good false v n is = absurd (false≢true is)
+left-good true v n is = good-packed (minusMod 10000 (weight v) n)
+
+pub left-again : (bcd : Bool) (v n k : ℕ) → remaining bcd (remaining bcd v n) k ≡ remaining bcd v (n + k)
+left-again false v n k = again 65536 v n k (omega arith)
+left-again true v n k =
+    rw (weight-packed (minusMod 10000 (weight v) n) (below 10000 (weight v) n (omega arith)))
+    (ap packed (again 10000 (weight v) n k (omega arith)))
+
+pub left-apart : (bcd : Bool) (v n k : ℕ) → n < modulus bcd → k < modulus bcd → remaining bcd v n ≡ remaining bcd v k → n ≡ k
+left-apart false v n k hn hk e = apart 65536 v n k hn hk e
+left-apart true v n k hn hk e =
+    apart 10000 (weight v) n k hn hk
+    (sym (weight-packed (minusMod 10000 (weight v) n) (below 10000 (weight v) n (omega arith)))
+    ∙ ap weight e
+    ∙ weight-packed (minusMod 10000 (weight v) k) (below 10000 (weight v) k (omega arith)))
+
+abbrev byteIn : Value → ℕ
+byteIn done = 0
+byteIn (newPlace p) = 0
+byteIn (byte x) = x
+byteIn (ticks n) = 0
+byteIn (outputState level) = 0
+byteIn (channelCount register element counting) = 0
+byteIn (retriggers answer) = 0
+byteIn (dirtyMarks dirty counting ticked) = 0
+byteIn (timerAccum left) = 0
+
+abbrev byteOf : Reply Value → ℕ
+byteOf (refused number) = 0
+byteOf (accepted value) = byteIn value
+
+-- two bytes spell one word
+pub spelled-once : (w u : ℕ) (first second : Reply Value) → Spells w first second → Spells u first second → w ≡ u
+spelled-once w u first second p q =
+    let low : w % 256 ≡ u % 256 = ap byteOf (sym (p .0) ∙ q .0) in
+    let high : w / 256 ≡ u / 256 = ap byteOf (sym (p .1) ∙ q .1) in
+    omega arith

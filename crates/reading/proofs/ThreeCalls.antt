@@ -1,0 +1,100 @@
+-- Latch and two reads of a channel, as calls of the board and on its record: where a reading may begin, the bytes make up the counting element. Assumes nothing.
+use Prim.Native.Nat.{ℕ, zero, suc, _+_, _*_, _/_, _%_, _<_, _≤_}
+use mathlib.Core.Bool.{Bool, true, false, cond, false≢true}
+use mathlib.Core.List.{List, []}
+use mathlib.Core.Path.{_≡_, refl, sym, ap, _∙_}
+use native.Mathlib.Omega.{arith}
+use lib.ListN.{length}
+use lib.Seq.{set-set}
+use borrow.Author.Tests.{le-ltb}
+use Rattle.refusal.specs.Reply.{accepted}
+use Rattle.channel.specs.declared.Channel.{Channel}
+use Rattle.channel.specs.declared.RwMode.{RwMode}
+use Rattle.channel.specs.declared.RwMode.the-variants.{Lsb, Msb, LsbMsb}
+use Rattle.channel.specs.declared.ReadState.{ReadState}
+use Rattle.channel.specs.declared.ReadState.the-variants.{NoRead, ReadLsb}
+use Rattle.control.specs.declared.Command.{Command}
+use Rattle.control.specs.declared.Command.the-variants.{LatchCount}
+use Rattle.control.specs.Control.{commandOf}
+use Rattle.latch.specs.Latching.{latchCount}
+use Rattle.latch.specs.Reading.{readByte}
+use Rattle.event.specs.declared.Event.the-variants.{Unchanged}
+use Rattle.event.specs.Event.{eventOf, placeEvent}
+use Rattle.board.specs.declared.Board.{Board}
+use Rattle.board.specs.Board.{channelAt, withChannels, withChannel}
+use Rattle.board.specs.Outcome.{Outcome}
+use Rattle.ports.specs.Port.{portOf}
+use Rattle.ports.specs.Settle.{settle}
+use Rattle.ports.specs.Writes.{controlRegisterWrite, writePort}
+use Rattle.step.specs.Step.{step, steps}
+use Rattle.step.proofs.Three.{step-three}
+use Rattle.reading.specs.Run.{readOf, latchOf, threeCalls}
+use Rattle.reading.specs.Word.{readWord}
+use Rattle.reading.specs.ReadCount.{startsWord, mayBegin, readCount}
+use Rattle.reading.proofs.Holds.{Holds, latch-holds, first-byte, first-holds, second-byte}
+use Rattle.reading.proofs.Passing.{put-found}
+use Rattle.reading.proofs.Turns.{read-turn}
+
+starts-access : (a : RwMode) (s : ReadState) → startsWord a s ≡ true → a ≡ LsbMsb
+starts-access Lsb s e = absurd (false≢true e)
+starts-access Msb s e = absurd (false≢true e)
+starts-access LsbMsb s e = refl
+
+starts-whole : (a : RwMode) (s : ReadState) → startsWord a s ≡ true → s ≡ NoRead
+starts-whole Lsb s e = absurd (false≢true e)
+starts-whole Msb s e = absurd (false≢true e)
+starts-whole LsbMsb NoRead e = refl
+starts-whole LsbMsb ReadLsb e = absurd (false≢true e)
+
+open-begin : (latched starts : Bool) → cond latched false starts ≡ true → starts ≡ true
+open-begin true starts e = absurd (false≢true e)
+open-begin false starts e = e
+
+module _ (c : Channel) (may : mayBegin c ≡ true) where
+  starts : startsWord (c .control .«rw_mode») (c .latch .«read_state») ≡ true
+  starts = open-begin (c .latch .«count_is_latched») _ may
+
+  held : Holds (c .counter .«counting_element») NoRead (latchCount c)
+  held =
+      latch-holds c (starts-access (c .control .«rw_mode») (c .latch .«read_state») starts)
+      (starts-whole (c .control .«rw_mode») (c .latch .«read_state») starts)
+
+  -- the two bytes make up the counting element
+  pub word-is-element : readWord c .word ≡ c .counter .«counting_element»
+  unfolding readWord
+  word-is-element =
+      rw (first-byte (latchCount c) _ held, second-byte (readByte (latchCount c) .channel) _ (first-holds (latchCount c) _ held)) (omega arith)
+
+latch-byte : (n : ℕ) → n < 3 → commandOf (n * 64) ≡ LatchCount n
+unfolding commandOf
+latch-byte zero on = refl
+latch-byte (suc zero) on = refl
+latch-byte (suc (suc zero)) on = refl
+latch-byte (suc (suc (suc n))) on = absurd (omega arith)
+
+no-event : (n : ℕ) (level : Bool) → eventOf n level level ≡ Unchanged
+no-event n true = refl
+no-event n false = refl
+
+latch-left : (b : Board) (n : ℕ) → settle b n (latchCount (channelAt b n)) [] 0 .board ≡ withChannel b n (latchCount (channelAt b n))
+unfolding settle placeEvent latchCount
+latch-left b n = simp (no-event n (channelAt b n .pins .output))
+
+module _ (b : Board) (three : length (b .channels) ≡ 3) (n : ℕ) (on : n < 3) where
+  latch-put : step b (latchOf n) .board ≡ withChannel b n (latchCount (channelAt b n))
+  unfolding writePort portOf
+  latch-put = ap (λ (command : Command). controlRegisterWrite b command [] 0 .board) (latch-byte n on) ∙ latch-left b n
+
+  -- a read of a board that has just been given a record
+  read-put : (c : Channel) → step (withChannel b n c) (readOf n) .board ≡ withChannel b n (readByte c .channel)
+  read-put c =
+      ap (λ (o : Outcome). o .board) (read-turn (withChannel b n c) n on)
+      ∙ ap (λ (d : Channel). withChannel (withChannel b n c) n (readByte d .channel)) (put-found b three n on c)
+      ∙ ap (withChannels b) (set-set (b .channels) n c (readByte c .channel))
+
+  pub three-calls : steps b (threeCalls n) ≡ withChannel b n (readWord (channelAt b n) .channel)
+  unfolding readWord
+  three-calls =
+      ap (λ (d : Board). step (step d (readOf n) .board) (readOf n) .board) latch-put
+      ∙ ap (λ (d : Board). step d (readOf n) .board) (read-put (latchCount (channelAt b n)))
+      ∙ read-put (readByte (latchCount (channelAt b n)) .channel)

@@ -1,0 +1,40 @@
+-- `reading::read_count` meets its contract. Assumes nothing.
+use mathlib.Core.Bool.{true}
+use mathlib.Core.Path.{_≡_, sym, _∙_}
+use borrow.Author.Needs.{needs}
+use borrow.Author.Tests.{lt-ltb, le-ltb}
+use Rattle.board.specs.declared.Board.{Board}
+use Rattle.board.specs.Board.{channelAt}
+use Rattle.reading.specs.ReadCount.{mayBegin, readCount}
+use Rattle.reading.proofs.ThreeCalls.{word-is-element}
+use Rattle.reading.proofs.read_count.Statement.{statement}
+use Rattle.reading.proofs.read_count.Tie as tie
+
+returns : tie.Need-returns
+unfolding readCount
+returns c = simp (lt-ltb _ _ (c .if1 .taken))
+
+returns-2 : tie.Need-returns-2
+unfolding readCount
+returns-2 c =
+    let a = c .before .before .before .before .before .before .args in
+    let may : mayBegin (channelAt (a .t1) (a .channel)) ≡ true = sym (c .before .before .before .may-begin .ensures) ∙ c .before .before .if2 .taken in
+    simp (c .before .read-word .ensures, word-is-element (channelAt (a .t1) (a .channel)) may, may, le-ltb _ _ (c .before .before .before .before .before .if1 .left))
+
+returns-3 : tie.Need-returns-3
+unfolding readCount
+returns-3 c = simp (sym (c .before .may-begin .ensures) ∙ c .if2 .left, le-ltb _ _ (c .before .before .before .if1 .left))
+
+pub read-count-spec : {M : Type 1} → statement M
+read-count-spec =
+    tie.close
+    (tie.spec
+    returns
+    (λ c. search needs)
+    (λ c. search needs)
+    (λ c κs. search needs)
+    (λ c κs. search needs)
+    (λ c. search needs)
+    (λ c. search needs)
+    returns-2
+    returns-3)

@@ -1,0 +1,96 @@
+// The count of a channel in one call, for a host that wants the number and not the bytes. What is promised of reads that a host makes itself, with other calls
+// between them, is specs/Promise.antt.
+use board::Board;
+use channel::Channel;
+use channel::ReadState;
+use channel::RwMode;
+use refusal::Refusal;
+ghost use mathlib.Core.Path.{_≡_};
+ghost use Rattle.reading.specs.Word.{readWord};
+ghost use Rattle.reading.specs.ReadCount.{countOutcome, startsWord, mayBegin, readCount};
+
+pub enum CountRead {
+    Refused(Refusal),
+    // The channel is not read low byte then high, is latched, or has a word half read: nothing was done.
+    NotReadable,
+    Count(u16),
+}
+
+pub struct Read {
+    pub count: CountRead,
+    pub board: Board,
+}
+
+// A record latched and read twice: the two bytes as a number.
+struct WordRead {
+    word: u16,
+    channel: Channel,
+}
+
+fn read_word(c: Channel) -> WordRead
+    ensures { λ r. ⌜ r ≡ readWord c ⌝ }
+{
+    let latched = latch::latch_count(c);
+    let low = latch::read_byte(latched);
+    let half_read = low.channel;
+    let high = latch::read_byte(half_read);
+    let channel = high.channel;
+    WordRead {
+        word: low.byte as u16 + high.byte as u16 * 256,
+        channel,
+    }
+}
+
+fn starts_word(rw_mode: RwMode, read_state: ReadState) -> bool
+    ensures { λ r. ⌜ r ≡ startsWord «rw_mode» «read_state» ⌝ }
+{
+    match rw_mode {
+        RwMode::Lsb => false,
+        RwMode::Msb => false,
+        RwMode::LsbMsb => match read_state {
+            ReadState::NoRead => true,
+            ReadState::ReadLsb => false,
+        },
+    }
+}
+
+// A held count is left to whoever latched it.
+fn may_begin(c: Channel) -> bool
+    ensures { λ r. ⌜ r ≡ mayBegin c ⌝ }
+{
+    let l = c.latch;
+    if l.count_is_latched {
+        return false;
+    }
+    let w = c.control;
+    let rw_mode = w.rw_mode;
+    let read_state = l.read_state;
+    starts_word(rw_mode, read_state)
+}
+
+// Refusal 2, then 201.
+pub fn read_count(b: Board, channel: usize) -> Read
+    ensures { λ r. ⌜ countOutcome r ≡ readCount b channel ⌝ }
+{
+    if 2 < channel {
+        return Read {
+            count: CountRead::Refused(Refusal::ChannelAbove2),
+            board: b,
+        };
+    }
+    let c = b.channels[channel];
+    if may_begin(c) {
+        let got = read_word(c);
+        let next = got.channel;
+        let mut board = b;
+        board.channels[channel] = next;
+        return Read {
+            count: CountRead::Count(got.word),
+            board,
+        };
+    }
+    Read {
+        count: CountRead::NotReadable,
+        board: b,
+    }
+}
