@@ -1,13 +1,12 @@
 -- What k counts come to for a reading, with other calls among them: the counting element k steps on, access, radix, half-read word and whether it is latched as they were, and a
 -- held latch too. Assumes nothing.
 use Prim.Native.Nat.{ℕ, zero, suc, _+_}
-use mathlib.Core.Bool.{Bool, true}
+use mathlib.Core.Bool.{true}
 use mathlib.Core.Path.{_≡_, refl, sym, ap, _∙_}
 use native.Mathlib.Nat.{add-comm}
 use Rattle.numbers.specs.Times.{times}
 use Rattle.numbers.proofs.Times.{times-add}
 use Rattle.channel.specs.declared.Channel.{Channel}
-use Rattle.channel.specs.declared.ControlWord.{ControlWord}
 use Rattle.channel.specs.declared.Latch.{Latch}
 use Rattle.channel.specs.Kept.{Kept}
 use Rattle.channel.specs.Shared.{putElement}

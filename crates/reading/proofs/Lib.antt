@@ -8,3 +8,4 @@ pub mod Turns
 pub mod Run
 pub mod ThreeCalls
 pub mod Promise
+pub mod Beginnings

@@ -1,29 +1,23 @@
 -- A run of demand 3, turn by turn: what its channel counts, holds and gives. Assumes nothing.
-use Prim.Native.Nat.{ℕ, _+_, _/_, _%_, _<_}
-use mathlib.Core.Bool.{Bool, true, false}
-use mathlib.Core.List.{List, [], _∷_, _++_}
-use mathlib.Core.Path.{_≡_, refl, sym, ap, subst, _∙_}
+use Prim.Native.Nat.{ℕ, _+_, _<_}
+use mathlib.Core.Bool.{Bool}
+use mathlib.Core.List.{[], _∷_, _++_}
+use mathlib.Core.Path.{_≡_, sym, ap, subst, _∙_}
 use lib.ListN.{length}
-use Rattle.refusal.specs.Reply.{Reply, accepted}
-use Rattle.channel.specs.declared.Channel.{Channel}
+use Rattle.refusal.specs.Reply.{accepted}
 use Rattle.channel.specs.declared.ControlWord.{ControlWord}
-use Rattle.channel.specs.declared.Latch.{Latch}
-use Rattle.channel.specs.declared.RwMode.the-variants.{LsbMsb}
 use Rattle.channel.specs.declared.ReadState.the-variants.{NoRead, ReadLsb}
-use Rattle.latch.specs.declared.reading.ByteRead.{ByteRead}
-use Rattle.latch.specs.Latching.{latchCount}
 use Rattle.latch.specs.Reading.{readByte}
 use Rattle.board.specs.declared.Board.{Board}
 use Rattle.board.specs.Board.{channelAt}
-use Rattle.board.specs.Outcome.{Outcome, Value, byte}
-use Rattle.step.specs.Operation.{Operation}
+use Rattle.board.specs.Outcome.{byte}
 use Rattle.step.specs.Step.{step, steps}
 use Rattle.step.proofs.Three.{step-three, steps-three}
 use Rattle.reading.specs.Beginning.{Begins}
 use Rattle.reading.specs.Run.{AllAccepted, countsOn, readOf, Run, countsMade, countsInAll, atFirst, atSecond, atEnd, firstReply, secondReply}
 use Rattle.reading.specs.Spelling.{remaining, Spells}
 use Rattle.reading.proofs.Counted.{Counted}
-use Rattle.reading.proofs.Passing.{put-found, all-pass}
+use Rattle.reading.proofs.Passing.{all-pass}
 use Rattle.reading.proofs.Listed.{steps-then, accepted-first, accepted-then}
 use Rattle.reading.proofs.Holds.{Holds, latch-holds, counted-holds, first-byte, first-holds, second-byte, second-control, second-ends, second-whole}
 use Rattle.reading.proofs.Turns.{read-reply, read-leaves, latch-turn}

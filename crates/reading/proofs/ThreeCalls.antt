@@ -1,13 +1,11 @@
 -- Latch and two reads of a channel, as calls of the board and on its record: where a reading may begin, the bytes make up the counting element. Assumes nothing.
-use Prim.Native.Nat.{ℕ, zero, suc, _+_, _*_, _/_, _%_, _<_, _≤_}
+use Prim.Native.Nat.{ℕ, zero, suc, _*_, _<_}
 use mathlib.Core.Bool.{Bool, true, false, cond, false≢true}
-use mathlib.Core.List.{List, []}
-use mathlib.Core.Path.{_≡_, refl, sym, ap, _∙_}
+use mathlib.Core.List.{[]}
+use mathlib.Core.Path.{_≡_, refl, ap, _∙_}
 use native.Mathlib.Omega.{arith}
 use lib.ListN.{length}
 use lib.Seq.{set-set}
-use borrow.Author.Tests.{le-ltb}
-use Rattle.refusal.specs.Reply.{accepted}
 use Rattle.channel.specs.declared.Channel.{Channel}
 use Rattle.channel.specs.declared.RwMode.{RwMode}
 use Rattle.channel.specs.declared.RwMode.the-variants.{Lsb, Msb, LsbMsb}
@@ -27,10 +25,9 @@ use Rattle.ports.specs.Port.{portOf}
 use Rattle.ports.specs.Settle.{settle}
 use Rattle.ports.specs.Writes.{controlRegisterWrite, writePort}
 use Rattle.step.specs.Step.{step, steps}
-use Rattle.step.proofs.Three.{step-three}
 use Rattle.reading.specs.Run.{readOf, latchOf, threeCalls}
 use Rattle.reading.specs.Word.{readWord}
-use Rattle.reading.specs.ReadCount.{startsWord, mayBegin, readCount}
+use Rattle.reading.specs.ReadCount.{startsWord, mayBegin}
 use Rattle.reading.proofs.Holds.{Holds, latch-holds, first-byte, first-holds, second-byte}
 use Rattle.reading.proofs.Passing.{put-found}
 use Rattle.reading.proofs.Turns.{read-turn}

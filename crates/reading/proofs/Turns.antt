@@ -1,14 +1,12 @@
 -- The turns of a reading that are its own: the latch and the two reads, on the board. Assumes nothing.
-use Prim.Native.Nat.{ℕ, _+_, _-_, _/_, _%_, _<_, _≤_}
-use mathlib.Core.Bool.{Bool, true, false}
+use Prim.Native.Nat.{ℕ, _+_, _-_, _<_, _≤_}
 use mathlib.Core.List.{List}
-use mathlib.Core.Path.{_≡_, refl, sym, ap, subst, _∙_}
+use mathlib.Core.Path.{_≡_, refl, ap, _∙_}
 use native.Mathlib.Omega.{arith}
 use lib.ListN.{length}
 use borrow.Author.Tests.{lt-ltb, le-ltb}
 use Rattle.refusal.specs.Reply.{Reply, refused, accepted}
 use Rattle.channel.specs.declared.Channel.{Channel}
-use Rattle.control.specs.declared.Command.{Command}
 use Rattle.control.specs.declared.Command.the-variants.{LatchCount}
 use Rattle.control.specs.Control.{commandOf}
 use Rattle.latch.specs.Latching.{latchCount}
@@ -17,12 +15,11 @@ use Rattle.event.specs.Event.{placeEvent}
 use Rattle.board.specs.declared.Board.{Board}
 use Rattle.board.specs.Board.{channelAt, withChannel}
 use Rattle.board.specs.Outcome.{Outcome, Value, byte}
-use Rattle.ports.specs.declared.port.Port.{Port}
 use Rattle.ports.specs.declared.port.Port.the-variants.{Data, Command as CommandPort}
 use Rattle.ports.specs.Port.{portOf}
 use Rattle.ports.specs.Settle.{callReply, boardAfter, levelEvent, settle}
 use Rattle.ports.specs.Reads.{dataRead, readFrom, readPort}
-use Rattle.ports.specs.Writes.{controlRegisterWrite, writeTo, writePort}
+use Rattle.ports.specs.Writes.{writePort}
 use Rattle.step.specs.Operation.{Operation, WritePort, ReadPort, SetChannelGate, Counts, LoadCycle, CatchUp, Run, Reset, GetOutputState, GetChannelCount, DoesChannelRetrigger, IsDirty, GetTimerAccum}
 use Rattle.step.specs.Step.{step}
 use Rattle.step.proofs.Deciding.{refused-not}
@@ -51,7 +48,7 @@ taken-board : (reply : Reply ℕ) (old new : Board) (value : Value) → callRepl
 taken-board (refused number) old new value took = absurd (refused-not number value took)
 taken-board (accepted place) old new value took = refl
 
-settled-board : (b : Board) (n : ℕ) (c : Channel) (events : List ℕ) (place : ℕ) (value : Value) → settle b n c events place .reply ≡ accepted value
+pub settled-board : (b : Board) (n : ℕ) (c : Channel) (events : List ℕ) (place : ℕ) (value : Value) → settle b n c events place .reply ≡ accepted value
     → settle b n c events place .board ≡ withChannel b n c
 unfolding settle
 settled-board b n c events place value took =

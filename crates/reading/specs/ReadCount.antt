@@ -27,6 +27,11 @@ countReply (Refused refusal) = refused (refusalNumber refusal)
 countReply NotReadable = refused 201
 countReply (Count e) = accepted e
 
+-- the number of a refusal, 0 where there is none
+abbrev pub numberIn : Reply ℕ → ℕ
+numberIn (refused number) = number
+numberIn (accepted e) = 0
+
 abbrev pub countOutcome : Read → CountOutcome
 countOutcome r = record { reply = countReply (r .count); board = r .board }
 

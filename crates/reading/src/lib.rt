@@ -7,7 +7,7 @@ use channel::RwMode;
 use refusal::Refusal;
 ghost use mathlib.Core.Path.{_≡_};
 ghost use Rattle.reading.specs.Word.{readWord};
-ghost use Rattle.reading.specs.ReadCount.{countOutcome, startsWord, mayBegin, readCount};
+ghost use Rattle.reading.specs.ReadCount.{countReply, numberIn, countOutcome, startsWord, mayBegin, readCount};
 
 pub enum CountRead {
     Refused(Refusal),
@@ -19,6 +19,19 @@ pub enum CountRead {
 pub struct Read {
     pub count: CountRead,
     pub board: Board,
+}
+
+impl CountRead {
+    // The refusal's number: document 01's, or 201. 0 beside a count.
+    pub fn number(self) -> u8
+        ensures { λ r. ⌜ r ≡ numberIn (countReply self) ⌝ }
+    {
+        match self {
+            CountRead::Refused(refusal) => refusal.number(),
+            CountRead::NotReadable => 201,
+            CountRead::Count(_) => 0,
+        }
+    }
 }
 
 // A record latched and read twice: the two bytes as a number.

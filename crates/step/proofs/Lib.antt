@@ -12,3 +12,4 @@ pub mod Still
 pub mod Touched
 pub mod Kept
 pub mod Warp
+pub mod Numbers

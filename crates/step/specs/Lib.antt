@@ -5,3 +5,4 @@ pub mod Refusals
 pub mod Time
 pub mod Events
 pub mod Touched
+pub mod Numbers

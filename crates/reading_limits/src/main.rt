@@ -1,0 +1,239 @@
+// What demand 3 does not promise (docs/READING.md): for each exclusion and each condition a smallest list of calls on which the two bytes read are not v - n, beside
+// the same list without it, on which they are. Then what `read_count` answers where a reading may begin, and where not.
+use board::Answer;
+use board::Board;
+use channel::PitType;
+use libc::STDOUT_FILENO;
+use reading::CountRead;
+
+// Channel 0's data port, and the command port.
+const DATA: u16 = 0x40;
+const COMMAND: u16 = 0x43;
+
+// Control bytes for channel 0, all mode 0: latch; low byte only; low byte then high; the same in BCD.
+const LATCH: u8 = 0x00;
+const LOW_BYTE: u8 = 0x10;
+const BOTH_BYTES: u8 = 0x30;
+const BOTH_BYTES_BCD: u8 = 0x31;
+
+// The two bytes read, in their order.
+struct Bytes {
+    first: u8,
+    second: u8,
+}
+
+// A byte read, and the board after it.
+struct Got {
+    byte: u8,
+    board: Board,
+}
+
+fn fresh() -> Board {
+    let made = Board::new(PitType::Model8253, 12);
+    made.board
+}
+
+// Two event bytes are lent, so a place of 3 is refused and a place of 0 is not.
+fn write_at(b: Board, port: u16, byte: u8, place: usize) -> Board {
+    let mut events = [0u8; 2];
+    let r = ports::write_port(b, port, byte, &mut events, place);
+    r.board
+}
+
+fn write(b: Board, port: u16, byte: u8) -> Board {
+    write_at(b, port, byte, 0)
+}
+
+fn counts(b: Board, number: u32) -> Board {
+    let r = b.counts(0, number);
+    r.board
+}
+
+fn load_cycle(b: Board) -> Board {
+    let r = b.load_cycle(0);
+    r.board
+}
+
+fn byte_of(answer: Answer) -> u8 {
+    match answer {
+        Answer::Byte(byte) => byte,
+        Answer::Refused(_) => 0,
+        Answer::Done => 0,
+        Answer::Place(_) => 0,
+        Answer::Ticks(_) => 0,
+        Answer::OutputState(_) => 0,
+        Answer::Count(_) => 0,
+        Answer::Retriggers(_) => 0,
+        Answer::Dirty(_, _, _) => 0,
+    }
+}
+
+fn read(b: Board) -> Got {
+    let r = ports::read_port(b, DATA);
+    let answer = r.answer;
+    let board = r.board;
+    Got {
+        byte: byte_of(answer),
+        board,
+    }
+}
+
+fn read_two(b: Board) -> Bytes {
+    let low = read(b);
+    let next = low.board;
+    let high = read(next);
+    Bytes {
+        first: low.byte,
+        second: high.byte,
+    }
+}
+
+fn latch_and_read(b: Board) -> Bytes {
+    read_two(write(b, COMMAND, LATCH))
+}
+
+fn mode_set(spoilt: bool) -> Bytes {
+    let b = counts(fresh(), 1);
+    if spoilt {
+        return latch_and_read(write(b, COMMAND, BOTH_BYTES));
+    }
+    latch_and_read(b)
+}
+
+fn second_latch(spoilt: bool) -> Bytes {
+    let b = counts(write(fresh(), COMMAND, LATCH), 1);
+    if spoilt {
+        return latch_and_read(b);
+    }
+    read_two(b)
+}
+
+fn load(spoilt: bool) -> Bytes {
+    let b = write(write(fresh(), DATA, 5), DATA, 0);
+    if spoilt {
+        return latch_and_read(load_cycle(b));
+    }
+    latch_and_read(b)
+}
+
+fn extra_read(spoilt: bool) -> Bytes {
+    let b = write(counts(fresh(), 2), COMMAND, LATCH);
+    if spoilt {
+        let extra = read(b);
+        let after = extra.board;
+        return read_two(after);
+    }
+    read_two(b)
+}
+
+fn reset(spoilt: bool) -> Bytes {
+    let b = counts(fresh(), 1);
+    if spoilt {
+        return latch_and_read(b.reset());
+    }
+    latch_and_read(b)
+}
+
+fn low_byte_only(spoilt: bool) -> Bytes {
+    if spoilt {
+        return latch_and_read(counts(write(fresh(), COMMAND, LOW_BYTE), 2));
+    }
+    latch_and_read(counts(write(fresh(), COMMAND, BOTH_BYTES), 2))
+}
+
+fn half_read(spoilt: bool) -> Bytes {
+    let b = fresh();
+    if spoilt {
+        let half = read(b);
+        let after = half.board;
+        return latch_and_read(counts(after, 2));
+    }
+    latch_and_read(counts(b, 2))
+}
+
+// 0x00A0 weighs 100, as 0x0100 does.
+fn digit_above_9(spoilt: bool) -> Bytes {
+    let b = write(fresh(), COMMAND, BOTH_BYTES_BCD);
+    if spoilt {
+        return latch_and_read(load_cycle(write(write(b, DATA, 0xA0), DATA, 0)));
+    }
+    latch_and_read(load_cycle(write(write(b, DATA, 0), DATA, 1)))
+}
+
+fn refused_counts(spoilt: bool) -> Bytes {
+    if spoilt {
+        return latch_and_read(counts(fresh(), 65537));
+    }
+    latch_and_read(counts(counts(fresh(), 65536), 1))
+}
+
+fn refused_latch(spoilt: bool) -> Bytes {
+    if spoilt {
+        return read_two(counts(write_at(fresh(), COMMAND, LATCH, 3), 1));
+    }
+    read_two(counts(write_at(fresh(), COMMAND, LATCH, 0), 1))
+}
+
+fn say(text: &[u8]) {
+    io::write_all(STDOUT_FILENO, text);
+}
+
+fn say_bytes(text: &[u8], bytes: Bytes) {
+    say(text);
+    io::print_hex(STDOUT_FILENO, bytes.first as u64, 2);
+    say(b" ");
+    io::print_hex(STDOUT_FILENO, bytes.second as u64, 2);
+}
+
+// v - n of both lists of a case, low byte first.
+fn say_case(name: &[u8], with: Bytes, without: Bytes, first: u8, second: u8) {
+    say(name);
+    say_bytes(b": read ", with);
+    let spelt = Bytes { first, second };
+    say_bytes(b", v - n is ", spelt);
+    say_bytes(b", without it ", without);
+    say(b"\n");
+}
+
+fn say_count(name: &[u8], b: Board, channel: usize) {
+    say(b"read_count, ");
+    say(name);
+    let r = reading::read_count(b, channel);
+    let count = r.count;
+    match count {
+        CountRead::Count(left) => {
+            say(b": ");
+            io::print_decimal(STDOUT_FILENO, left as u64);
+        }
+        CountRead::Refused(_) => {
+            say(b": refused ");
+            io::print_decimal(STDOUT_FILENO, count.number() as u64);
+        }
+        CountRead::NotReadable => {
+            say(b": refused ");
+            io::print_decimal(STDOUT_FILENO, count.number() as u64);
+        }
+    }
+    say(b"\n");
+}
+
+fn main() {
+    say_case(b"mode set", mode_set(true), mode_set(false), 0xFF, 0xFF);
+    say_case(b"second latch", second_latch(true), second_latch(false), 0, 0);
+    say_case(b"load cycle", load(true), load(false), 0, 0);
+    say_case(b"extra read", extra_read(true), extra_read(false), 0xFE, 0xFF);
+    say_case(b"reset", reset(true), reset(false), 0xFF, 0xFF);
+    say_case(b"low byte only", low_byte_only(true), low_byte_only(false), 0xFE, 0xFF);
+    say_case(b"half-read word", half_read(true), half_read(false), 0xFE, 0xFF);
+    say_case(b"digit above 9", digit_above_9(true), digit_above_9(false), 0, 1);
+    say_case(b"refused counts", refused_counts(true), refused_counts(false), 0xFF, 0xFF);
+    say_case(b"refused latch", refused_latch(true), refused_latch(false), 0, 0);
+    say_count(b"fresh", fresh(), 0);
+    say_count(b"after 3 counts", counts(fresh(), 3), 0);
+    say_count(b"channel 3", fresh(), 3);
+    say_count(b"low byte only", write(fresh(), COMMAND, LOW_BYTE), 0);
+    say_count(b"latched", write(fresh(), COMMAND, LATCH), 0);
+    let half = read(fresh());
+    let half_board = half.board;
+    say_count(b"half-read word", half_board, 0);
+}
