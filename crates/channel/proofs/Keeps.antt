@@ -1,10 +1,12 @@
--- The shared rules that keep the count: entry into a state and a change of the output do, and so does whatever a test picks of things that do.
+-- The shared rules that keep the count: entry into a state and a change of the output do, and so does whatever a test picks of things that do. A held latch keeps its word.
 -- Assumes nothing.
-use mathlib.Core.Path.{refl, _∙_}
+use Prim.Native.Nat.{ℕ}
+use mathlib.Core.Path.{_≡_, refl, _∙_}
 use mathlib.Core.Bool.{Bool, true, false, cond}
 use Rattle.channel.specs.declared.Channel.{Channel}
 use Rattle.channel.specs.declared.ChannelState.{ChannelState}
-use Rattle.channel.specs.Shared.{changeChannelState, changeOutputState}
+use Rattle.channel.specs.declared.Latch.{Latch}
+use Rattle.channel.specs.Shared.{changeChannelState, changeOutputState, followed}
 use Rattle.channel.specs.Kept.{Kept}
 
 pub kept-same : (c : Channel) → Kept c c
@@ -30,3 +32,7 @@ kept-state c s = record { control-kept = refl; latch-kept = refl; element-kept =
 pub kept-output : (c : Channel) (level : Bool) → Kept c (changeOutputState c level)
 unfolding changeOutputState
 kept-output c level = record { control-kept = refl; latch-kept = refl; element-kept = refl; ticked-kept = refl }
+
+-- a held latch stays where the counting element goes on
+pub held-follows : (l : Latch) (e : ℕ) → l .«count_is_latched» ≡ true → followed l e ≡ l
+held-follows l e held = simp held

@@ -134,6 +134,19 @@ fn reset(spoilt: bool) -> Bytes {
     latch_and_read(b)
 }
 
+// After a reading the output latch still has the count that was latched: read again without a latch, it is a stale copy.
+fn stale_copy(spoilt: bool) -> Bytes {
+    let b = counts(write(fresh(), COMMAND, LATCH), 1);
+    let low = read(b);
+    let half = low.board;
+    let high = read(half);
+    let after = high.board;
+    if spoilt {
+        return read_two(after);
+    }
+    latch_and_read(after)
+}
+
 fn low_byte_only(spoilt: bool) -> Bytes {
     if spoilt {
         return latch_and_read(counts(write(fresh(), COMMAND, LOW_BYTE), 2));
@@ -223,6 +236,7 @@ fn main() {
     say_case(b"load cycle", load(true), load(false), 0, 0);
     say_case(b"extra read", extra_read(true), extra_read(false), 0xFE, 0xFF);
     say_case(b"reset", reset(true), reset(false), 0xFF, 0xFF);
+    say_case(b"stale copy", stale_copy(true), stale_copy(false), 0xFF, 0xFF);
     say_case(b"low byte only", low_byte_only(true), low_byte_only(false), 0xFE, 0xFF);
     say_case(b"half-read word", half_read(true), half_read(false), 0xFE, 0xFF);
     say_case(b"digit above 9", digit_above_9(true), digit_above_9(false), 0, 1);
