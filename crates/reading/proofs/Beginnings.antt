@@ -128,13 +128,13 @@ module _ (b : Board) (i : ℕ) (bcd : Bool) (v : ℕ) (begins : Begins b i bcd v
       record {
         on-board = begins .on-board;
         low-then-high =
-          ap (λ (c : Channel). c .control .«rw_mode») loaded ∙ ap (λ (w : ControlWord). w .«rw_mode») (cycled-control (channelAt b i) waits)
-          ∙ begins .low-then-high;
+            ap (λ (c : Channel). c .control .«rw_mode») loaded ∙ ap (λ (w : ControlWord). w .«rw_mode») (cycled-control (channelAt b i) waits)
+            ∙ begins .low-then-high;
         not-latched = ap (λ (c : Channel). c .latch .«count_is_latched») loaded ∙ cycled-latched (channelAt b i) waits ∙ begins .not-latched;
         no-half-read = ap (λ (c : Channel). c .latch .«read_state») loaded ∙ cycled-half (channelAt b i) waits ∙ begins .no-half-read;
         radix =
-          ap (λ (c : Channel). c .control .«bcd_mode») loaded ∙ ap (λ (w : ControlWord). w .«bcd_mode») (cycled-control (channelAt b i) waits)
-          ∙ begins .radix;
+            ap (λ (c : Channel). c .control .«bcd_mode») loaded ∙ ap (λ (w : ControlWord). w .«bcd_mode») (cycled-control (channelAt b i) waits)
+            ∙ begins .radix;
         element = ap (λ (c : Channel). c .counter .«counting_element») loaded ∙ cycled-element (channelAt b i) waits;
         four-digits = good;
         three-channels = step-three b (begins .three-channels) (LoadCycle i);

@@ -8,12 +8,16 @@ use reading::CountRead;
 
 // Channel 0's data port, and the command port.
 const DATA: u16 = 0x40;
+
 const COMMAND: u16 = 0x43;
 
 // Control bytes for channel 0, all mode 0: latch; low byte only; low byte then high; the same in BCD.
 const LATCH: u8 = 0x00;
+
 const LOW_BYTE: u8 = 0x10;
+
 const BOTH_BYTES: u8 = 0x30;
+
 const BOTH_BYTES_BCD: u8 = 0x31;
 
 // The two bytes read, in their order.
@@ -232,16 +236,64 @@ fn say_count(name: &[u8], b: Board, channel: usize) {
 
 fn main() {
     say_case(b"mode set", mode_set(true), mode_set(false), 0xFF, 0xFF);
-    say_case(b"second latch", second_latch(true), second_latch(false), 0, 0);
+    say_case(
+        b"second latch",
+        second_latch(true),
+        second_latch(false),
+        0,
+        0,
+    );
     say_case(b"load cycle", load(true), load(false), 0, 0);
-    say_case(b"extra read", extra_read(true), extra_read(false), 0xFE, 0xFF);
+    say_case(
+        b"extra read",
+        extra_read(true),
+        extra_read(false),
+        0xFE,
+        0xFF,
+    );
     say_case(b"reset", reset(true), reset(false), 0xFF, 0xFF);
-    say_case(b"stale copy", stale_copy(true), stale_copy(false), 0xFF, 0xFF);
-    say_case(b"low byte only", low_byte_only(true), low_byte_only(false), 0xFE, 0xFF);
-    say_case(b"half-read word", half_read(true), half_read(false), 0xFE, 0xFF);
-    say_case(b"digit above 9", digit_above_9(true), digit_above_9(false), 0, 1);
-    say_case(b"refused counts", refused_counts(true), refused_counts(false), 0xFF, 0xFF);
-    say_case(b"refused latch", refused_latch(true), refused_latch(false), 0, 0);
+    say_case(
+        b"stale copy",
+        stale_copy(true),
+        stale_copy(false),
+        0xFF,
+        0xFF,
+    );
+    say_case(
+        b"low byte only",
+        low_byte_only(true),
+        low_byte_only(false),
+        0xFE,
+        0xFF,
+    );
+    say_case(
+        b"half-read word",
+        half_read(true),
+        half_read(false),
+        0xFE,
+        0xFF,
+    );
+    say_case(
+        b"digit above 9",
+        digit_above_9(true),
+        digit_above_9(false),
+        0,
+        1,
+    );
+    say_case(
+        b"refused counts",
+        refused_counts(true),
+        refused_counts(false),
+        0xFF,
+        0xFF,
+    );
+    say_case(
+        b"refused latch",
+        refused_latch(true),
+        refused_latch(false),
+        0,
+        0,
+    );
     say_count(b"fresh", fresh(), 0);
     say_count(b"after 3 counts", counts(fresh(), 3), 0);
     say_count(b"channel 3", fresh(), 3);
