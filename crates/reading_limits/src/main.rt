@@ -6,12 +6,12 @@ use channel::PitType;
 use libc::STDOUT_FILENO;
 use reading::CountRead;
 
-// Channel 0's data port, and the command port.
+// Channel 0's data port.
 const DATA: u16 = 0x40;
 
 const COMMAND: u16 = 0x43;
 
-// Control bytes for channel 0, all mode 0: latch; low byte only; low byte then high; the same in BCD.
+// Control bytes for channel 0. The mode sets are of mode 0.
 const LATCH: u8 = 0x00;
 
 const LOW_BYTE: u8 = 0x10;
@@ -151,7 +151,7 @@ fn stale_copy(spoilt: bool) -> Bytes {
     latch_and_read(after)
 }
 
-fn low_byte_only(spoilt: bool) -> Bytes {
+fn low_byte(spoilt: bool) -> Bytes {
     if spoilt {
         return latch_and_read(counts(write(fresh(), COMMAND, LOW_BYTE), 2));
     }
@@ -169,7 +169,7 @@ fn half_read(spoilt: bool) -> Bytes {
 }
 
 // 0x00A0 weighs 100, as 0x0100 does.
-fn digit_above_9(spoilt: bool) -> Bytes {
+fn bad_digit(spoilt: bool) -> Bytes {
     let b = write(fresh(), COMMAND, BOTH_BYTES_BCD);
     if spoilt {
         return latch_and_read(load_cycle(write(write(b, DATA, 0xA0), DATA, 0)));
@@ -177,14 +177,14 @@ fn digit_above_9(spoilt: bool) -> Bytes {
     latch_and_read(load_cycle(write(write(b, DATA, 0), DATA, 1)))
 }
 
-fn refused_counts(spoilt: bool) -> Bytes {
+fn no_counts(spoilt: bool) -> Bytes {
     if spoilt {
         return latch_and_read(counts(fresh(), 65537));
     }
     latch_and_read(counts(counts(fresh(), 65536), 1))
 }
 
-fn refused_latch(spoilt: bool) -> Bytes {
+fn no_latch(spoilt: bool) -> Bytes {
     if spoilt {
         return read_two(counts(write_at(fresh(), COMMAND, LATCH, 3), 1));
     }
@@ -202,11 +202,14 @@ fn say_bytes(text: &[u8], bytes: Bytes) {
     io::print_hex(STDOUT_FILENO, bytes.second as u64, 2);
 }
 
-// v - n of both lists of a case, low byte first.
-fn say_case(name: &[u8], with: Bytes, without: Bytes, first: u8, second: u8) {
+// The last argument is v - n, of both lists of the case.
+fn case(name: &[u8], with: Bytes, without: Bytes, left: u16) {
     say(name);
     say_bytes(b": read ", with);
-    let spelt = Bytes { first, second };
+    let spelt = Bytes {
+        first: (left % 256) as u8,
+        second: (left / 256) as u8,
+    };
     say_bytes(b", v - n is ", spelt);
     say_bytes(b", without it ", without);
     say(b"\n");
@@ -234,72 +237,36 @@ fn say_count(name: &[u8], b: Board, channel: usize) {
     say(b"\n");
 }
 
-fn main() {
-    say_case(b"mode set", mode_set(true), mode_set(false), 0xFF, 0xFF);
-    say_case(
-        b"second latch",
-        second_latch(true),
-        second_latch(false),
-        0,
-        0,
-    );
-    say_case(b"load cycle", load(true), load(false), 0, 0);
-    say_case(
-        b"extra read",
-        extra_read(true),
-        extra_read(false),
-        0xFE,
-        0xFF,
-    );
-    say_case(b"reset", reset(true), reset(false), 0xFF, 0xFF);
-    say_case(
-        b"stale copy",
-        stale_copy(true),
-        stale_copy(false),
-        0xFF,
-        0xFF,
-    );
-    say_case(
-        b"low byte only",
-        low_byte_only(true),
-        low_byte_only(false),
-        0xFE,
-        0xFF,
-    );
-    say_case(
-        b"half-read word",
-        half_read(true),
-        half_read(false),
-        0xFE,
-        0xFF,
-    );
-    say_case(
-        b"digit above 9",
-        digit_above_9(true),
-        digit_above_9(false),
-        0,
-        1,
-    );
-    say_case(
-        b"refused counts",
-        refused_counts(true),
-        refused_counts(false),
-        0xFF,
-        0xFF,
-    );
-    say_case(
-        b"refused latch",
-        refused_latch(true),
-        refused_latch(false),
-        0,
-        0,
-    );
+fn exclusions() {
+    case(b"mode set", mode_set(true), mode_set(false), 0xFFFF);
+    case(b"second latch", second_latch(true), second_latch(false), 0);
+    case(b"load cycle", load(true), load(false), 0);
+    case(b"extra read", extra_read(true), extra_read(false), 0xFFFE);
+    case(b"reset", reset(true), reset(false), 0xFFFF);
+    case(b"stale copy", stale_copy(true), stale_copy(false), 0xFFFF);
+}
+
+fn conditions() {
+    case(b"low byte only", low_byte(true), low_byte(false), 0xFFFE);
+    case(b"half-read word", half_read(true), half_read(false), 0xFFFE);
+    case(b"digit above 9", bad_digit(true), bad_digit(false), 0x0100);
+    case(b"refused counts", no_counts(true), no_counts(false), 0xFFFF);
+    case(b"refused latch", no_latch(true), no_latch(false), 0);
+}
+
+fn in_one_call() {
     say_count(b"fresh", fresh(), 0);
     say_count(b"after 3 counts", counts(fresh(), 3), 0);
     say_count(b"channel 3", fresh(), 3);
     say_count(b"low byte only", write(fresh(), COMMAND, LOW_BYTE), 0);
     say_count(b"latched", write(fresh(), COMMAND, LATCH), 0);
     let half = read(fresh());
-    let half_board = half.board;
-    say_count(b"half-read word", half_board, 0);
+    let b = half.board;
+    say_count(b"half-read word", b, 0);
+}
+
+fn main() {
+    exclusions();
+    conditions();
+    in_one_call();
 }
