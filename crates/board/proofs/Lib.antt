@@ -1,1 +1,2 @@
+pub mod Channels
 pub mod Apart

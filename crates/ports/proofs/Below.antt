@@ -1,10 +1,10 @@
 -- What a port number's tests come to: what holds of a data port, of the command port and of any other number holds of the port. Assumes nothing.
-use Prim.Native.Nat.{ℕ, _-_, _<_, _≤_}
+use Prim.Native.Nat.{ℕ, _+_, _-_, _<_, _≤_}
 use mathlib.Core.Bool.{Bool, true, false, cond}
 use mathlib.Core.Path.{_≡_, refl, subst}
 use native.Mathlib.Omega.{arith}
 use lib.Dec.{ltb, eqb}
-use borrow.Author.Tests.{ltb-true, ltb-false, eqb-true, eqb-false}
+use borrow.Author.Tests.{ltb-true, ltb-false, lt-ltb, le-ltb, eqb-true, eqb-false}
 use Rattle.ports.specs.declared.port.Port.{Port}
 use Rattle.ports.specs.declared.port.Port.the-variants.{Data, Command, Unknown}
 use Rattle.ports.specs.Port.{portOf}
@@ -40,3 +40,12 @@ Reaches Unknown = Unit
 -- a data port is one of the three channels'
 pub data-below : (port n : ℕ) → portOf port ≡ Data n → n < 3
 data-below port n e = subst Reaches e (by-port port Reaches (λ out. tt) (λ k on range. on) (λ range. tt))
+
+-- .. in their order
+pub data-port : (n : ℕ) → n < 3 → portOf (0x40 + n) ≡ Data n
+unfolding portOf
+data-port n on =
+    let low : 0x40 ≤ 0x40 + n = omega arith in
+    let high : 0x40 + n < 0x43 = omega arith in
+    let is : 0x40 + n - 0x40 ≡ n = omega arith in
+    simp (le-ltb _ _ low, lt-ltb _ _ high, is)

@@ -25,6 +25,7 @@ use Rattle.load.specs.Cycle as load
 use Rattle.mode.specs.Mode.{setMode}
 use Rattle.board.specs.declared.Board.{Board}
 use Rattle.board.specs.Board.{channelAt}
+use Rattle.board.proofs.Channels.{put-found}
 use Rattle.board.specs.Outcome.{Value}
 use Rattle.board.specs.Making.{fresh}
 use Rattle.board.specs.Counting.{loadCycle}
@@ -35,7 +36,6 @@ use Rattle.step.specs.Operation.{WritePort, LoadCycle}
 use Rattle.step.specs.Step.{step}
 use Rattle.step.proofs.Three.{fresh-three, step-three}
 use Rattle.reading.specs.Beginning.{Begins}
-use Rattle.reading.proofs.Passing.{put-found}
 use Rattle.reading.proofs.Turns.{settled-board}
 
 zero-good : GoodDigits 0

@@ -6,12 +6,10 @@ use mathlib.Core.Path.{_≡_, refl, sym, subst}
 use native.Mathlib.Omega.{arith}
 use lib.Dec.{ltb, eqb}
 use lib.ListN.{length}
-use lib.Seq.{getD-set-same}
 use borrow.Author.Tests.{eqb-true, eqb-false, le-ltb}
 use Rattle.refusal.specs.Reply.{Reply, refused, accepted}
 use Rattle.numbers.specs.Times.{times}
 use Rattle.channel.specs.declared.Channel.{Channel}
-use Rattle.channel.specs.Blank.{blank}
 use Rattle.channel.proofs.Pick.{pick-holds}
 use Rattle.count.specs.Count.{count}
 use Rattle.load.specs.Write.{writeByte}
@@ -21,6 +19,7 @@ use Rattle.gate.proofs.Keeps.{gate-keeps}
 use Rattle.event.specs.Event.{placeEvent}
 use Rattle.board.specs.declared.Board.{Board}
 use Rattle.board.specs.Board.{channelAt, withChannel}
+use Rattle.board.proofs.Channels.{put-found}
 use Rattle.board.specs.Outcome.{Outcome, Value, done, refuse, accept, onChannel}
 use Rattle.board.specs.Counting.{counts}
 use Rattle.board.specs.Queries.{isDirty}
@@ -52,11 +51,8 @@ module _ (b : Board) (three : length (b .channels) ≡ 3) (i : ℕ) (on : i < 3)
   abbrev After : ℕ → Outcome → Type 0
   After k outcome = Counted k (channelAt b i) (channelAt (outcome .board) i)
 
-  pub put-found : (c : Channel) → channelAt (withChannel b i c) i ≡ c
-  put-found c = getD-set-same (b .channels) i c blank (rw three on)
-
   put-counted : (k : ℕ) (c : Channel) → Counted k (channelAt b i) c → Counted k (channelAt b i) (channelAt (withChannel b i c) i)
-  put-counted k c p = subst (λ (d : Channel). Counted k (channelAt b i) d) (sym (put-found c)) p
+  put-counted k c p = subst (λ (d : Channel). Counted k (channelAt b i) d) (sym (put-found b three i on c)) p
 
   stays-counted : (outcome : Outcome) → channelAt (outcome .board) i ≡ channelAt b i → After 0 outcome
   stays-counted outcome stays = subst (λ (d : Channel). Counted 0 (channelAt b i) d) (sym stays) (counted-none (channelAt b i))

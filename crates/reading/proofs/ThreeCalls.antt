@@ -5,7 +5,6 @@ use mathlib.Core.List.{[]}
 use mathlib.Core.Path.{_≡_, refl, ap, _∙_}
 use native.Mathlib.Omega.{arith}
 use lib.ListN.{length}
-use lib.Seq.{set-set}
 use Rattle.channel.specs.declared.Channel.{Channel}
 use Rattle.channel.specs.declared.RwMode.{RwMode}
 use Rattle.channel.specs.declared.RwMode.the-variants.{Lsb, Msb, LsbMsb}
@@ -19,7 +18,8 @@ use Rattle.latch.specs.Reading.{readByte}
 use Rattle.event.specs.declared.Event.the-variants.{Unchanged}
 use Rattle.event.specs.Event.{eventOf, placeEvent}
 use Rattle.board.specs.declared.Board.{Board}
-use Rattle.board.specs.Board.{channelAt, withChannels, withChannel}
+use Rattle.board.specs.Board.{channelAt, withChannel}
+use Rattle.board.proofs.Channels.{put-found, put-again}
 use Rattle.board.specs.Outcome.{Outcome}
 use Rattle.ports.specs.Port.{portOf}
 use Rattle.ports.specs.Settle.{settle}
@@ -29,7 +29,6 @@ use Rattle.reading.specs.Run.{readOf, latchOf, threeCalls}
 use Rattle.reading.specs.Word.{readWord}
 use Rattle.reading.specs.ReadCount.{startsWord, mayBegin}
 use Rattle.reading.proofs.Holds.{Holds, latch-holds, first-byte, first-holds, second-byte}
-use Rattle.reading.proofs.Passing.{put-found}
 use Rattle.reading.proofs.Turns.{read-turn}
 
 starts-access : (a : RwMode) (s : ReadState) → startsWord a s ≡ true → a ≡ LsbMsb
@@ -87,7 +86,7 @@ module _ (b : Board) (three : length (b .channels) ≡ 3) (n : ℕ) (on : n < 3)
   read-put c =
       ap (λ (o : Outcome). o .board) (read-turn (withChannel b n c) n on)
       ∙ ap (λ (d : Channel). withChannel (withChannel b n c) n (readByte d .channel)) (put-found b three n on c)
-      ∙ ap (withChannels b) (set-set (b .channels) n c (readByte c .channel))
+      ∙ put-again b n c (readByte c .channel)
 
   pub three-calls : steps b (threeCalls n) ≡ withChannel b n (readWord (channelAt b n) .channel)
   unfolding readWord

@@ -1,10 +1,8 @@
 -- The turns of a reading that are its own: the latch and the two reads, on the board. Assumes nothing.
-use Prim.Native.Nat.{ℕ, _+_, _-_, _<_, _≤_}
+use Prim.Native.Nat.{ℕ, _-_, _<_}
 use mathlib.Core.List.{List}
 use mathlib.Core.Path.{_≡_, refl, ap, _∙_}
-use native.Mathlib.Omega.{arith}
 use lib.ListN.{length}
-use borrow.Author.Tests.{lt-ltb, le-ltb}
 use Rattle.refusal.specs.Reply.{Reply, refused, accepted}
 use Rattle.channel.specs.declared.Channel.{Channel}
 use Rattle.control.specs.declared.Command.the-variants.{LatchCount}
@@ -14,9 +12,11 @@ use Rattle.latch.specs.Reading.{readByte}
 use Rattle.event.specs.Event.{placeEvent}
 use Rattle.board.specs.declared.Board.{Board}
 use Rattle.board.specs.Board.{channelAt, withChannel}
+use Rattle.board.proofs.Channels.{put-found}
 use Rattle.board.specs.Outcome.{Outcome, Value, byte}
-use Rattle.ports.specs.declared.port.Port.the-variants.{Data, Command as CommandPort}
+use Rattle.ports.specs.declared.port.Port.the-variants.{Command as CommandPort}
 use Rattle.ports.specs.Port.{portOf}
+use Rattle.ports.proofs.Below.{data-port}
 use Rattle.ports.specs.Settle.{callReply, boardAfter, levelEvent, settle}
 use Rattle.ports.specs.Reads.{dataRead, readFrom, readPort}
 use Rattle.ports.specs.Writes.{writePort}
@@ -24,20 +24,10 @@ use Rattle.step.specs.Operation.{Operation, WritePort, ReadPort, SetChannelGate
 use Rattle.step.specs.Step.{step}
 use Rattle.step.proofs.Deciding.{refused-not}
 use Rattle.reading.specs.Run.{Latches, readOf}
-use Rattle.reading.proofs.Passing.{put-found}
-
--- the data ports are the channels' in their order
-pub port-found : (i : ℕ) → i < 3 → portOf (0x40 + i) ≡ Data i
-unfolding portOf
-port-found i on =
-    let low : 0x40 ≤ 0x40 + i = omega arith in
-    let high : 0x40 + i < 0x43 = omega arith in
-    let is : 0x40 + i - 0x40 ≡ i = omega arith in
-    simp (le-ltb _ _ low, lt-ltb _ _ high, is)
 
 pub read-turn : (b : Board) (i : ℕ) → i < 3 → step b (readOf i) ≡ dataRead b i
 unfolding readPort
-read-turn b i on = ap (readFrom b) (port-found i on)
+read-turn b i on = ap (readFrom b) (data-port i on)
 
 -- the byte is the record's own, and so is what is left in its place
 pub read-reply : (b : Board) (i : ℕ) → i < 3 → step b (readOf i) .reply ≡ accepted (byte (readByte (channelAt b i) .byte))

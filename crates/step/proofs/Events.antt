@@ -8,11 +8,9 @@ use mathlib.Core.Path.{_≡_, refl, sym, ap, subst, _∙_}
 use native.Mathlib.Omega.{arith}
 use lib.Dec.{ltb, eqb}
 use lib.ListN.{length}
-use lib.Seq.{getD-set-same, getD-set-other}
 use borrow.Author.Tests.{ltb-false, eqb-true, eqb-false}
 use Rattle.refusal.specs.Reply.{Reply, refused, accepted}
 use Rattle.channel.specs.declared.Channel.{Channel}
-use Rattle.channel.specs.Blank.{blank}
 use Rattle.channel.proofs.Pick.{pick-knowing}
 use Rattle.control.specs.declared.Command.{Command}
 use Rattle.control.specs.declared.Command.the-variants.{Nothing, LatchCount, SetMode}
@@ -26,6 +24,7 @@ use Rattle.event.proofs.Room.{by-unchanged, by-level}
 use Rattle.event.proofs.Written.{event-written}
 use Rattle.board.specs.declared.Board.{Board}
 use Rattle.board.specs.Board.{channelAt, withChannel}
+use Rattle.board.proofs.Channels.{put-found, put-other}
 use Rattle.board.specs.Outcome.{Outcome, Value, done, newPlace, byte, ticks, outputState, channelCount, retriggers, dirtyMarks, timerAccum, refuse}
 use Rattle.ports.specs.declared.port.Port.{Port}
 use Rattle.ports.specs.declared.port.Port.the-variants.{Data, Command as CommandPort, Unknown}
@@ -78,10 +77,10 @@ placed events place new (Level n level) =
 -- a channel put at a place of the board: its level there, and the levels elsewhere
 module _ (b : Board) (three : length (b .channels) ≡ 3) (n : ℕ) (on : n < 3) (c : Channel) where
   level-there : levelAt (withChannel b n c) n ≡ c .pins .output
-  level-there = ap (λ (d : Channel). d .pins .output) (getD-set-same (b .channels) n c blank (omega (arith, three)))
+  level-there = ap (λ (d : Channel). d .pins .output) (put-found b three n on c)
 
   level-elsewhere : (m : ℕ) → (m ≡ n → ⊥) → levelAt (withChannel b n c) m ≡ levelAt b m
-  level-elsewhere m other = ap (λ (d : Channel). d .pins .output) (getD-set-other (b .channels) n m c blank other)
+  level-elsewhere m other = ap (λ (d : Channel). d .pins .output) (put-other b n m c other)
 
   pub all-stand : c .pins .output ≡ levelAt b n → (m : ℕ) → levelAt (withChannel b n c) m ≡ levelAt b m
   all-stand same m = go (eqb m n) refl

@@ -4,10 +4,8 @@ use mathlib.Core.Bool.{Bool, true}
 use mathlib.Core.List.{List, []}
 use mathlib.Core.Path.{_≡_, refl}
 use lib.Dec.{ltb}
-use lib.Seq.{getD-set-other}
 use Rattle.refusal.specs.Reply.{Reply, refused, accepted}
 use Rattle.channel.specs.declared.Channel.{Channel}
-use Rattle.channel.specs.Blank.{blank}
 use Rattle.channel.proofs.Pick.{pick-holds}
 use Rattle.control.specs.declared.Command.{Command}
 use Rattle.control.specs.declared.Command.the-variants.{Nothing, LatchCount, SetMode}
@@ -17,6 +15,7 @@ use Rattle.event.specs.Event.{placeEvent}
 use Rattle.time.specs.Time.{Yield}
 use Rattle.board.specs.declared.Board.{Board}
 use Rattle.board.specs.Board.{channelAt, withChannel}
+use Rattle.board.proofs.Channels.{put-other}
 use Rattle.board.specs.Outcome.{Outcome, refuse, accept, onChannel}
 use Rattle.board.specs.Counting.{counts, loadCycle}
 use Rattle.board.specs.Queries.{getOutputState, getChannelCount, doesChannelRetrigger, isDirty}
@@ -36,9 +35,6 @@ module _ (b : Board) (m : ℕ) where
   abbrev Stays : Outcome → Type 0
   Stays outcome = channelAt (outcome .board) m ≡ channelAt b m
 
-  put-stays : (n : ℕ) (c : Channel) → (m ≡ n → ⊥) → channelAt (withChannel b n c) m ≡ channelAt b m
-  put-stays n c other = getD-set-other (b .channels) n m c blank other
-
   on-channel : (n : ℕ) (events : List ℕ) (outcome : Outcome) → Stays outcome → Stays (onChannel b n events outcome)
   on-channel n events outcome = pick-holds Stays (ltb 2 n) (refuse 2 b events) outcome refl
 
@@ -48,7 +44,7 @@ module _ (b : Board) (m : ℕ) where
 
   settle-stays : (n : ℕ) (c : Channel) (events : List ℕ) (place : ℕ) → (m ≡ n → ⊥) → Stays (settle b n c events place)
   unfolding settle
-  settle-stays n c events place other = after-stays (placeEvent (levelEvent n (channelAt b n) c) events place .reply) (withChannel b n c) (put-stays n c other)
+  settle-stays n c events place other = after-stays (placeEvent (levelEvent n (channelAt b n) c) events place .reply) (withChannel b n c) (put-other b n m c other)
 
   command-stays : (command : Command) (events : List ℕ) (place : ℕ) → (CommandTouches command m → ⊥) → Stays (controlRegisterWrite b command events place)
   unfolding untouched
@@ -62,7 +58,7 @@ module _ (b : Board) (m : ℕ) where
   write-stays Unknown byte events place other = refl
 
   read-stays : (port : Port) → (ReadTouches port m → ⊥) → Stays (readFrom b port)
-  read-stays (Data n) other = put-stays n _ other
+  read-stays (Data n) other = put-other b n m _ other
   read-stays CommandPort other = refl
   read-stays Unknown other = refl
 
@@ -72,7 +68,7 @@ module _ (b : Board) (m : ℕ) where
 
   counts-stays : (n number : ℕ) → (m ≡ n → ⊥) → Stays (counts b n number)
   unfolding counts
-  counts-stays n number other = on-channel n [] _ (pick-holds Stays (ltb 65536 number) (refuse 6 b []) _ refl (put-stays n _ other))
+  counts-stays n number other = on-channel n [] _ (pick-holds Stays (ltb 65536 number) (refuse 6 b []) _ refl (put-other b n m _ other))
 
   pub untouched-stays : (o : Operation) → (Touches o m → ⊥) → channelAt (step b o .board) m ≡ channelAt b m
   unfolding setChannelGate writePort readPort loadCycle catchUp run getOutputState getChannelCount doesChannelRetrigger isDirty
@@ -80,12 +76,12 @@ module _ (b : Board) (m : ℕ) where
   untouched-stays (ReadPort port) other = read-stays (portOf port) other
   untouched-stays (SetChannelGate n level events place) other = on-channel n events _ (settle-stays n _ events place other)
   untouched-stays (Counts n number) other = counts-stays n number other
-  untouched-stays (LoadCycle n) other = on-channel n [] _ (put-stays n _ other)
+  untouched-stays (LoadCycle n) other = on-channel n [] _ (put-other b n m _ other)
   untouched-stays (CatchUp given) other = time-stays given true (elapsed b given)
   untouched-stays (Run given) other = time-stays 0 (b .defer) (elapsed b given)
   untouched-stays Reset other = absurd (other tt)
   untouched-stays (GetOutputState n) other = on-channel n [] (accept _ b) refl
   untouched-stays (GetChannelCount n) other = on-channel n [] (accept _ b) refl
   untouched-stays (DoesChannelRetrigger n) other = on-channel n [] (accept _ b) refl
-  untouched-stays (IsDirty n) other = on-channel n [] _ (put-stays n _ other)
+  untouched-stays (IsDirty n) other = on-channel n [] _ (put-other b n m _ other)
   untouched-stays GetTimerAccum other = refl
