@@ -96,33 +96,33 @@ fn latch_and_read(b: Board) -> Bytes {
     read_two(write(b, COMMAND, LATCH))
 }
 
-fn mode_set(spoilt: bool) -> Bytes {
+fn mode_set(spoiled: bool) -> Bytes {
     let b = counts(fresh(), 1);
-    if spoilt {
+    if spoiled {
         return latch_and_read(write(b, COMMAND, BOTH_BYTES));
     }
     latch_and_read(b)
 }
 
-fn second_latch(spoilt: bool) -> Bytes {
+fn second_latch(spoiled: bool) -> Bytes {
     let b = counts(write(fresh(), COMMAND, LATCH), 1);
-    if spoilt {
+    if spoiled {
         return latch_and_read(b);
     }
     read_two(b)
 }
 
-fn load(spoilt: bool) -> Bytes {
+fn load(spoiled: bool) -> Bytes {
     let b = write(write(fresh(), DATA, 5), DATA, 0);
-    if spoilt {
+    if spoiled {
         return latch_and_read(load_cycle(b));
     }
     latch_and_read(b)
 }
 
-fn extra_read(spoilt: bool) -> Bytes {
+fn extra_read(spoiled: bool) -> Bytes {
     let b = write(counts(fresh(), 2), COMMAND, LATCH);
-    if spoilt {
+    if spoiled {
         let extra = read(b);
         let after = extra.board;
         return read_two(after);
@@ -130,37 +130,37 @@ fn extra_read(spoilt: bool) -> Bytes {
     read_two(b)
 }
 
-fn reset(spoilt: bool) -> Bytes {
+fn reset(spoiled: bool) -> Bytes {
     let b = counts(fresh(), 1);
-    if spoilt {
+    if spoiled {
         return latch_and_read(b.reset());
     }
     latch_and_read(b)
 }
 
 // After a reading the output latch still has the count that was latched: read again without a latch, it is a stale copy.
-fn stale_copy(spoilt: bool) -> Bytes {
+fn stale_copy(spoiled: bool) -> Bytes {
     let b = counts(write(fresh(), COMMAND, LATCH), 1);
     let low = read(b);
     let half = low.board;
     let high = read(half);
     let after = high.board;
-    if spoilt {
+    if spoiled {
         return read_two(after);
     }
     latch_and_read(after)
 }
 
-fn low_byte(spoilt: bool) -> Bytes {
-    if spoilt {
+fn low_byte(spoiled: bool) -> Bytes {
+    if spoiled {
         return latch_and_read(counts(write(fresh(), COMMAND, LOW_BYTE), 2));
     }
     latch_and_read(counts(write(fresh(), COMMAND, BOTH_BYTES), 2))
 }
 
-fn half_read(spoilt: bool) -> Bytes {
+fn half_read(spoiled: bool) -> Bytes {
     let b = fresh();
-    if spoilt {
+    if spoiled {
         let half = read(b);
         let after = half.board;
         return latch_and_read(counts(after, 2));
@@ -169,23 +169,23 @@ fn half_read(spoilt: bool) -> Bytes {
 }
 
 // 0x00A0 weighs 100, as 0x0100 does.
-fn bad_digit(spoilt: bool) -> Bytes {
+fn bad_digit(spoiled: bool) -> Bytes {
     let b = write(fresh(), COMMAND, BOTH_BYTES_BCD);
-    if spoilt {
+    if spoiled {
         return latch_and_read(load_cycle(write(write(b, DATA, 0xA0), DATA, 0)));
     }
     latch_and_read(load_cycle(write(write(b, DATA, 0), DATA, 1)))
 }
 
-fn no_counts(spoilt: bool) -> Bytes {
-    if spoilt {
+fn no_counts(spoiled: bool) -> Bytes {
+    if spoiled {
         return latch_and_read(counts(fresh(), 65537));
     }
     latch_and_read(counts(counts(fresh(), 65536), 1))
 }
 
-fn no_latch(spoilt: bool) -> Bytes {
-    if spoilt {
+fn no_latch(spoiled: bool) -> Bytes {
+    if spoiled {
         return read_two(counts(write_at(fresh(), COMMAND, LATCH, 3), 1));
     }
     read_two(counts(write_at(fresh(), COMMAND, LATCH, 0), 1))
@@ -206,11 +206,11 @@ fn say_bytes(text: &[u8], bytes: Bytes) {
 fn case(name: &[u8], with: Bytes, without: Bytes, left: u16) {
     say(name);
     say_bytes(b": read ", with);
-    let spelt = Bytes {
+    let spelled = Bytes {
         first: (left % 256) as u8,
         second: (left / 256) as u8,
     };
-    say_bytes(b", v - n is ", spelt);
+    say_bytes(b", v - n is ", spelled);
     say_bytes(b", without it ", without);
     say(b"\n");
 }
