@@ -1,7 +1,7 @@
--- Where a reading may begin: on every channel of a fresh board, at 0; after a mode set in low-then-high access, at 0 in its radix; and after a load cycle, at the value
--- loaded. So demand 3's premises are met. Assumes nothing.
+-- Where a reading may begin: on every channel of a fresh board, at 0; after a mode set in low-then-high access, at 0 in its radix; and after a load cycle on a
+-- channel that a reading may begin on, at the value moved. So demand 3's premises are met. Assumes nothing.
 use Prim.Native.Nat.{ℕ, zero, suc, _<_, _≤_}
-use mathlib.Core.Bool.{Bool, true, false}
+use mathlib.Core.Bool.{true, false}
 use mathlib.Core.List.{List}
 use mathlib.Core.Path.{_≡_, refl, ap, _∙_}
 use native.Mathlib.Omega.{arith}
@@ -36,6 +36,8 @@ use Rattle.step.specs.Operation.{WritePort, LoadCycle}
 use Rattle.step.specs.Step.{step}
 use Rattle.step.proofs.Three.{fresh-three, step-three}
 use Rattle.reading.specs.Beginning.{Begins}
+use Rattle.reading.specs.ReadCount.{mayBegin}
+use Rattle.reading.proofs.ThreeCalls.{begin-free, begin-access, begin-whole}
 use Rattle.reading.proofs.Turns.{settled-board}
 
 zero-good : GoodDigits 0
@@ -112,31 +114,26 @@ module _ (c : Channel) (waits : c .counter .«channel_state» ≡ WaitingForLoad
   unfolding changeChannelState putElement
   cycled-half = ap (λ (d : Channel). d .latch .«read_state») cycled ∙ simp (of-pick (λ (l : Latch). l .«read_state»), pick-same)
 
--- a value of decimal digits, where the radix is BCD
-module _ (b : Board) (i : ℕ) (bcd : Bool) (v : ℕ) (begins : Begins b i bcd v)
+-- the digits of the value loaded are decimal, where the radix is BCD; whatever the counting element was
+module _ (b : Board) (three : length (b .channels) ≡ 3) (i : ℕ) (on : i < 3) (may : mayBegin (channelAt b i) ≡ true)
     (waits : channelAt b i .counter .«channel_state» ≡ WaitingForLoadCycle) (fits : load.loadValue (channelAt b i) < 65536)
-    (good : bcd ≡ true → GoodDigits (load.loadValue (channelAt b i))) where
+    (good : channelAt b i .control .«bcd_mode» ≡ true → GoodDigits (load.loadValue (channelAt b i))) where
   loaded : channelAt (loadCycle b i .board) i ≡ load.loadCycle (channelAt b i)
   unfolding loadCycle
-  loaded =
-      let h = begins .on-board in
-      let on : i ≤ 2 = omega arith in
-      rw (le-ltb 2 i on) (put-found b (begins .three-channels) i (begins .on-board) (load.loadCycle (channelAt b i)))
+  loaded = let h : i ≤ 2 = omega arith in rw (le-ltb 2 i h) (put-found b three i on (load.loadCycle (channelAt b i)))
 
-  pub load-begins : Begins (step b (LoadCycle i) .board) i bcd (load.loadValue (channelAt b i))
+  pub load-begins : Begins (step b (LoadCycle i) .board) i (channelAt b i .control .«bcd_mode») (load.loadValue (channelAt b i))
   load-begins =
       record {
-        on-board = begins .on-board;
+        on-board = on;
         low-then-high =
             ap (λ (c : Channel). c .control .«rw_mode») loaded ∙ ap (λ (w : ControlWord). w .«rw_mode») (cycled-control (channelAt b i) waits)
-            ∙ begins .low-then-high;
-        not-latched = ap (λ (c : Channel). c .latch .«count_is_latched») loaded ∙ cycled-latched (channelAt b i) waits ∙ begins .not-latched;
-        no-half-read = ap (λ (c : Channel). c .latch .«read_state») loaded ∙ cycled-half (channelAt b i) waits ∙ begins .no-half-read;
-        radix =
-            ap (λ (c : Channel). c .control .«bcd_mode») loaded ∙ ap (λ (w : ControlWord). w .«bcd_mode») (cycled-control (channelAt b i) waits)
-            ∙ begins .radix;
+            ∙ begin-access (channelAt b i) may;
+        not-latched = ap (λ (c : Channel). c .latch .«count_is_latched») loaded ∙ cycled-latched (channelAt b i) waits ∙ begin-free (channelAt b i) may;
+        no-half-read = ap (λ (c : Channel). c .latch .«read_state») loaded ∙ cycled-half (channelAt b i) waits ∙ begin-whole (channelAt b i) may;
+        radix = ap (λ (c : Channel). c .control .«bcd_mode») loaded ∙ ap (λ (w : ControlWord). w .«bcd_mode») (cycled-control (channelAt b i) waits);
         element = ap (λ (c : Channel). c .counter .«counting_element») loaded ∙ cycled-element (channelAt b i) waits;
         four-digits = good;
-        three-channels = step-three b (begins .three-channels) (LoadCycle i);
+        three-channels = step-three b three (LoadCycle i);
         sixteen-bits = fits;
       }

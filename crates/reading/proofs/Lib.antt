@@ -5,7 +5,8 @@ pub mod Holds
 pub mod Passing
 pub mod Listed
 pub mod Turns
-pub mod Run
+pub mod Reading
 pub mod ThreeCalls
 pub mod Promise
 pub mod Beginnings
+pub mod Apart

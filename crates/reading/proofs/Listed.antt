@@ -4,7 +4,7 @@ use mathlib.Core.Path.{_≡_, refl}
 use Rattle.board.specs.declared.Board.{Board}
 use Rattle.step.specs.Operation.{Operation}
 use Rattle.step.specs.Step.{step, steps}
-use Rattle.reading.specs.Run.{AllAccepted}
+use Rattle.reading.specs.Reading.{AllAccepted}
 
 pub steps-then : (b : Board) (os ps : List Operation) → steps b (os ++ ps) ≡ steps (steps b os) ps
 steps-then b [] ps = refl

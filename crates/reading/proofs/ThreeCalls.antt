@@ -25,7 +25,7 @@ use Rattle.ports.specs.Port.{portOf}
 use Rattle.ports.specs.Settle.{settle}
 use Rattle.ports.specs.Writes.{controlRegisterWrite, writePort}
 use Rattle.step.specs.Step.{step, steps}
-use Rattle.reading.specs.Run.{readOf, latchOf, threeCalls}
+use Rattle.reading.specs.Reading.{readOf, latchOf, threeCalls}
 use Rattle.reading.specs.Word.{readWord}
 use Rattle.reading.specs.ReadCount.{startsWord, mayBegin}
 use Rattle.reading.proofs.Holds.{Holds, latch-holds, first-byte, first-holds, second-byte}
@@ -42,18 +42,26 @@ starts-whole Msb s e = absurd (false≢true e)
 starts-whole LsbMsb NoRead e = refl
 starts-whole LsbMsb ReadLsb e = absurd (false≢true e)
 
-open-begin : (latched starts : Bool) → cond latched false starts ≡ true → starts ≡ true
-open-begin true starts e = absurd (false≢true e)
-open-begin false starts e = e
+starts-unless : (latched starts : Bool) → cond latched false starts ≡ true → (latched ≡ false) × (starts ≡ true)
+starts-unless true starts e = absurd (false≢true e)
+starts-unless false starts e = (refl, e)
 
+-- what the test for a beginning says
 module _ (c : Channel) (may : mayBegin c ≡ true) where
-  starts : startsWord (c .control .«rw_mode») (c .latch .«read_state») ≡ true
-  starts = open-begin (c .latch .«count_is_latched») _ may
+  begins : (c .latch .«count_is_latched» ≡ false) × (startsWord (c .control .«rw_mode») (c .latch .«read_state») ≡ true)
+  begins = starts-unless (c .latch .«count_is_latched») (startsWord (c .control .«rw_mode») (c .latch .«read_state»)) may
+
+  pub begin-free : c .latch .«count_is_latched» ≡ false
+  begin-free = begins .0
+
+  pub begin-access : c .control .«rw_mode» ≡ LsbMsb
+  begin-access = starts-access (c .control .«rw_mode») (c .latch .«read_state») (begins .1)
+
+  pub begin-whole : c .latch .«read_state» ≡ NoRead
+  begin-whole = starts-whole (c .control .«rw_mode») (c .latch .«read_state») (begins .1)
 
   held : Holds (c .counter .«counting_element») NoRead (latchCount c)
-  held =
-      latch-holds c (starts-access (c .control .«rw_mode») (c .latch .«read_state») starts)
-      (starts-whole (c .control .«rw_mode») (c .latch .«read_state») starts)
+  held = latch-holds c begin-access begin-whole
 
   -- the two bytes make up the counting element
   pub word-is-element : readWord c .word ≡ c .counter .«counting_element»

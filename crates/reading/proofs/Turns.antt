@@ -23,7 +23,7 @@ use Rattle.ports.specs.Writes.{writePort}
 use Rattle.step.specs.Operation.{Operation, WritePort, ReadPort, SetChannelGate, Counts, LoadCycle, CatchUp, Run, Reset, GetOutputState, GetChannelCount, DoesChannelRetrigger, IsDirty, GetTimerAccum}
 use Rattle.step.specs.Step.{step}
 use Rattle.step.proofs.Deciding.{refused-not}
-use Rattle.reading.specs.Run.{Latches, readOf}
+use Rattle.reading.specs.Reading.{Latches, readOf}
 
 pub read-turn : (b : Board) (i : ℕ) → i < 3 → step b (readOf i) ≡ dataRead b i
 unfolding readPort

@@ -1,6 +1,6 @@
 pub mod Beginning
 pub mod Passing
-pub mod Run
+pub mod Reading
 pub mod Spelling
 pub mod Word
 pub mod ReadCount

@@ -10,7 +10,7 @@ use Rattle.ports.specs.Port.{portOf}
 use Rattle.step.specs.Operation.{Operation, WritePort, ReadPort, SetChannelGate, Counts, LoadCycle, CatchUp, Run, Reset, GetOutputState, GetChannelCount, DoesChannelRetrigger, IsDirty, GetTimerAccum}
 use Rattle.step.specs.Touched.{CommandTouches, ReadTouches}
 
--- a data byte to any channel; a control byte that neither latches channel i nor sets its mode
+-- a data byte to any channel; a control byte that neither latches channel i nor sets its mode. (An unknown port is refused, so no accepted call is one.)
 abbrev pub MayWrite : ℕ → Port → ℕ → Type 0
 MayWrite i (port.Data n) byte = Unit
 MayWrite i port.Command byte = CommandTouches (commandOf byte) i → ⊥

@@ -1,39 +1,41 @@
 -- Demand 3 itself, over the step of the board, and what goes with it. All are proved in proofs/Promise.antt; docs/READING.md says them in words.
 use Prim.Native.Nat.{ℕ, _<_}
-use mathlib.Core.Bool.{Bool}
+use mathlib.Core.Bool.{Bool, true}
 use mathlib.Core.List.{List}
 use mathlib.Core.Path.{_≡_}
+use lib.ListN.{length}
 use Rattle.refusal.specs.Reply.{accepted}
 use Rattle.board.specs.declared.Board.{Board}
+use Rattle.board.specs.Board.{channelAt}
 use Rattle.step.specs.Operation.{Operation}
 use Rattle.step.specs.Step.{steps}
 use Rattle.reading.specs.Beginning.{Begins}
 use Rattle.reading.specs.Passing.{AllMayPass}
-use Rattle.reading.specs.Run.{AllAccepted, countsOn, threeCalls, Run, countsMade, countsInAll, atEnd, firstReply, secondReply}
+use Rattle.reading.specs.Reading.{AllAccepted, countsOn, threeCalls, Reading, countsMade, countsInAll, atEnd, firstReply, secondReply}
 use Rattle.reading.specs.Spelling.{modulus, remaining, Spells}
-use Rattle.reading.specs.ReadCount.{readCount}
+use Rattle.reading.specs.ReadCount.{mayBegin, readCount}
 
 -- "The bytes spell (v - n) mod 65,536, or in BCD, v read as decimal, the digits of (v - n) mod 10,000."
 abbrev pub ReadsTheCount : Type 0
 ReadsTheCount =
-    (b : Board) (i : ℕ) (bcd : Bool) (v : ℕ) (run : Run b i bcd v)
-    → Spells (remaining bcd v (countsMade run)) (firstReply run) (secondReply run)
+    (b : Board) (i : ℕ) (bcd : Bool) (v : ℕ) (reading : Reading b i bcd v)
+    → Spells (remaining bcd v (countsMade reading)) (firstReply reading) (secondReply reading)
 
 -- "So two runs from one v in one radix whose n differ, both below that modulus, never read alike." Boards, channels and lists may differ.
 abbrev pub NeverAlike : Type 0
 NeverAlike =
-    (bcd : Bool) (v : ℕ) (b : Board) (i : ℕ) (run : Run b i bcd v) (c : Board) (j : ℕ) (other : Run c j bcd v)
-    → countsMade run < modulus bcd
+    (bcd : Bool) (v : ℕ) (b : Board) (i : ℕ) (reading : Reading b i bcd v) (c : Board) (j : ℕ) (other : Reading c j bcd v)
+    → countsMade reading < modulus bcd
     → countsMade other < modulus bcd
-    → (countsMade run ≡ countsMade other → ⊥)
-    → firstReply run ≡ firstReply other
-    → secondReply run ≡ secondReply other
+    → (countsMade reading ≡ countsMade other → ⊥)
+    → firstReply reading ≡ firstReply other
+    → secondReply reading ≡ secondReply other
     → ⊥
 
--- One reading after another: at its end the next may begin, from what all counts have left of v, those after the latch too.
+-- One reading after another: at its end the next may begin, from v less all counts, those after the latch included.
 abbrev pub BeginsAgain : Type 0
 BeginsAgain =
-    (b : Board) (i : ℕ) (bcd : Bool) (v : ℕ) (run : Run b i bcd v) → Begins (atEnd run) i bcd (remaining bcd v (countsInAll run))
+    (b : Board) (i : ℕ) (bcd : Bool) (v : ℕ) (reading : Reading b i bcd v) → Begins (atEnd reading) i bcd (remaining bcd v (countsInAll reading))
 
 -- The same promise of one call of the library, `read_count`: after n counts, whatever else passes, it answers v - n ..
 abbrev pub CountsThenReads : Type 0
@@ -41,6 +43,7 @@ CountsThenReads =
     (b : Board) (i : ℕ) (bcd : Bool) (v : ℕ) → Begins b i bcd v → (os : List Operation) → AllMayPass i os → AllAccepted b os
     → readCount (steps b os) i .reply ≡ accepted (remaining bcd v (countsOn i os))
 
--- .. and it leaves the board as the latch and the two reads leave it
+-- .. and wherever it answers a count it leaves the board as the latch and the two reads leave it
 abbrev pub AsThreeCalls : Type 0
-AsThreeCalls = (b : Board) (i : ℕ) (bcd : Bool) (v : ℕ) → Begins b i bcd v → readCount b i .board ≡ steps b (threeCalls i)
+AsThreeCalls =
+    (b : Board) (i : ℕ) → i < 3 → length (b .channels) ≡ 3 → mayBegin (channelAt b i) ≡ true → readCount b i .board ≡ steps b (threeCalls i)

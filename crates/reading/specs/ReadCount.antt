@@ -11,9 +11,9 @@ use Rattle.channel.specs.declared.ReadState.{ReadState}
 use Rattle.channel.specs.declared.ReadState.the-variants.{NoRead, ReadLsb}
 use Rattle.board.specs.declared.Board.{Board}
 use Rattle.board.specs.Board.{channelAt, withChannel}
-use Rattle.reading.specs.declared.CountRead.{CountRead}
-use Rattle.reading.specs.declared.CountRead.the-variants.{Refused, NotReadable, Count}
-use Rattle.reading.specs.declared.Read.{Read}
+use Rattle.reading.specs.declared.CountAnswer.{CountAnswer}
+use Rattle.reading.specs.declared.CountAnswer.the-variants.{Refused, NotReadable, Count}
+use Rattle.reading.specs.declared.CountAnswered.{CountAnswered}
 use Rattle.reading.specs.Word.{readWord}
 
 -- the reply, and the board handed back
@@ -21,8 +21,8 @@ pub record CountOutcome : Type 0 where
   pub reply : Reply ℕ
   pub board : Board
 
--- document 01's number and value for each answer. It has no number for a channel that a reading may not begin on: docs/DECISIONS.md 41
-abbrev pub countReply : CountRead → Reply ℕ
+-- document 01's number and value for each answer. For a channel that a reading may not begin on it has no number: docs/DECISIONS.md 41
+abbrev pub countReply : CountAnswer → Reply ℕ
 countReply (Refused refusal) = refused (refusalNumber refusal)
 countReply NotReadable = refused 201
 countReply (Count e) = accepted e
@@ -32,8 +32,8 @@ abbrev pub numberIn : Reply ℕ → ℕ
 numberIn (refused number) = number
 numberIn (accepted e) = 0
 
-abbrev pub countOutcome : Read → CountOutcome
-countOutcome r = record { reply = countReply (r .count); board = r .board }
+abbrev pub countOutcome : CountAnswered → CountOutcome
+countOutcome r = record { reply = countReply (r .answer); board = r .board }
 
 -- "read low byte then high", "no word half read": the next read gives a word's low byte
 abbrev pub startsWord : RwMode → ReadState → Bool
@@ -46,7 +46,7 @@ startsWord LsbMsb ReadLsb = false
 abbrev pub mayBegin : Channel → Bool
 mayBegin c = cond (c .latch .«count_is_latched») false (startsWord (c .control .«rw_mode») (c .latch .«read_state»))
 
--- "a read is either the count or a refusal with a number": the counting element, and the channel latched and read out
+-- the counting element, and the channel as a latch and the reads of both bytes leave it
 abbrev pub countTaken : Board → ℕ → CountOutcome
 countTaken b n =
     record { reply = accepted (channelAt b n .counter .«counting_element»); board = withChannel b n (readWord (channelAt b n) .channel) }

@@ -1,5 +1,5 @@
-// The count of a channel in one call, for a host that wants the number and not the bytes. What is promised of reads that a host makes itself, with other calls
-// between them, is specs/Promise.antt.
+// The count of a channel in one call, for a host that wants the count and not the bytes. What is promised of reads that a host makes itself, with other calls
+// between them, stands in specs/Promise.antt.
 use board::Board;
 use channel::Channel;
 use channel::ReadState;
@@ -9,27 +9,28 @@ ghost use mathlib.Core.Path.{_≡_};
 ghost use Rattle.reading.specs.Word.{readWord};
 ghost use Rattle.reading.specs.ReadCount.{countReply, numberIn, countOutcome, startsWord, mayBegin, readCount};
 
-pub enum CountRead {
+pub enum CountAnswer {
     Refused(Refusal),
     // The channel is not read low byte then high, is latched, or has a word half read: nothing was done.
     NotReadable,
+    // The counting element: in BCD its four digits as they stand, 0x1234 for 1,234.
     Count(u16),
 }
 
-pub struct Read {
-    pub count: CountRead,
+pub struct CountAnswered {
+    pub answer: CountAnswer,
     pub board: Board,
 }
 
-impl CountRead {
+impl CountAnswer {
     // The refusal's number: document 01's, or 201. 0 beside a count.
     pub fn number(self) -> u8
         ensures { λ r. ⌜ r ≡ numberIn (countReply self) ⌝ }
     {
         match self {
-            CountRead::Refused(refusal) => refusal.number(),
-            CountRead::NotReadable => 201,
-            CountRead::Count(_) => 0,
+            CountAnswer::Refused(refusal) => refusal.number(),
+            CountAnswer::NotReadable => 201,
+            CountAnswer::Count(_) => 0,
         }
     }
 }
@@ -82,12 +83,12 @@ fn may_begin(c: Channel) -> bool
 }
 
 // Refusal 2, then 201.
-pub fn read_count(b: Board, channel: usize) -> Read
+pub fn read_count(b: Board, channel: usize) -> CountAnswered
     ensures { λ r. ⌜ countOutcome r ≡ readCount b channel ⌝ }
 {
     if 2 < channel {
-        return Read {
-            count: CountRead::Refused(Refusal::ChannelAbove2),
+        return CountAnswered {
+            answer: CountAnswer::Refused(Refusal::ChannelAbove2),
             board: b,
         };
     }
@@ -97,13 +98,13 @@ pub fn read_count(b: Board, channel: usize) -> Read
         let next = got.channel;
         let mut board = b;
         board.channels[channel] = next;
-        return Read {
-            count: CountRead::Count(got.word),
+        return CountAnswered {
+            answer: CountAnswer::Count(got.word),
             board,
         };
     }
-    Read {
-        count: CountRead::NotReadable,
+    CountAnswered {
+        answer: CountAnswer::NotReadable,
         board: b,
     }
 }

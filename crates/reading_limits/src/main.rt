@@ -1,10 +1,10 @@
-// What demand 3 does not promise (docs/READING.md): for each exclusion and each condition a smallest list of calls on which the two bytes read are not v - n, beside
-// the same list without it, on which they are. Then what `read_count` answers where a reading may begin, and where not.
+// What demand 3 does not promise (docs/READING.md): for each exclusion, and for each condition but "not latched", which no list needs today, a smallest list of calls on
+// which the two bytes read are not v - n, beside the same list without the fault, on which they are. Then what `read_count` answers where a reading may begin, and where not.
 use board::Answer;
 use board::Board;
 use channel::PitType;
 use libc::STDOUT_FILENO;
-use reading::CountRead;
+use reading::CountAnswer;
 
 // Channel 0's data port.
 const DATA: u16 = 0x40;
@@ -138,8 +138,8 @@ fn reset(spoiled: bool) -> Bytes {
     latch_and_read(b)
 }
 
-// After a reading the output latch still has the count that was latched: read again without a latch, it is a stale copy.
-fn stale_copy(spoiled: bool) -> Bytes {
+// The count that was latched last is still in the output latch.
+fn stale(spoiled: bool) -> Bytes {
     let b = counts(write(fresh(), COMMAND, LATCH), 1);
     let low = read(b);
     let half = low.board;
@@ -149,6 +149,15 @@ fn stale_copy(spoiled: bool) -> Bytes {
         return read_two(after);
     }
     latch_and_read(after)
+}
+
+// The count from before a mode set is still in the output latch.
+fn old_mode(spoiled: bool) -> Bytes {
+    let b = write(counts(fresh(), 1), COMMAND, BOTH_BYTES);
+    if spoiled {
+        return read_two(b);
+    }
+    latch_and_read(b)
 }
 
 fn low_byte(spoiled: bool) -> Bytes {
@@ -177,14 +186,14 @@ fn bad_digit(spoiled: bool) -> Bytes {
     latch_and_read(load_cycle(write(write(b, DATA, 0), DATA, 1)))
 }
 
-fn no_counts(spoiled: bool) -> Bytes {
+fn too_many(spoiled: bool) -> Bytes {
     if spoiled {
         return latch_and_read(counts(fresh(), 65537));
     }
     latch_and_read(counts(counts(fresh(), 65536), 1))
 }
 
-fn no_latch(spoiled: bool) -> Bytes {
+fn past_end(spoiled: bool) -> Bytes {
     if spoiled {
         return read_two(counts(write_at(fresh(), COMMAND, LATCH, 3), 1));
     }
@@ -211,7 +220,7 @@ fn case(name: &[u8], with: Bytes, without: Bytes, left: u16) {
         second: (left / 256) as u8,
     };
     say_bytes(b", v - n is ", spelled);
-    say_bytes(b", without it ", without);
+    say_bytes(b", without the fault ", without);
     say(b"\n");
 }
 
@@ -219,19 +228,19 @@ fn say_count(name: &[u8], b: Board, channel: usize) {
     say(b"read_count, ");
     say(name);
     let r = reading::read_count(b, channel);
-    let count = r.count;
-    match count {
-        CountRead::Count(left) => {
+    let answer = r.answer;
+    match answer {
+        CountAnswer::Count(left) => {
             say(b": ");
-            io::print_decimal(STDOUT_FILENO, left as u64);
+            io::print_hex(STDOUT_FILENO, left as u64, 4);
         }
-        CountRead::Refused(_) => {
+        CountAnswer::Refused(_) => {
             say(b": refused ");
-            io::print_decimal(STDOUT_FILENO, count.number() as u64);
+            io::print_decimal(STDOUT_FILENO, answer.number() as u64);
         }
-        CountRead::NotReadable => {
+        CountAnswer::NotReadable => {
             say(b": refused ");
-            io::print_decimal(STDOUT_FILENO, count.number() as u64);
+            io::print_decimal(STDOUT_FILENO, answer.number() as u64);
         }
     }
     say(b"\n");
@@ -243,20 +252,32 @@ fn exclusions() {
     case(b"load cycle", load(true), load(false), 0);
     case(b"extra read", extra_read(true), extra_read(false), 0xFFFE);
     case(b"reset", reset(true), reset(false), 0xFFFF);
-    case(b"stale copy", stale_copy(true), stale_copy(false), 0xFFFF);
+}
+
+// No latch of the reading's own.
+fn unlatched() {
+    case(b"stale after a reading", stale(true), stale(false), 0xFFFF);
+    case(
+        b"stale after a mode set",
+        old_mode(true),
+        old_mode(false),
+        0,
+    );
 }
 
 fn conditions() {
     case(b"low byte only", low_byte(true), low_byte(false), 0xFFFE);
     case(b"half-read word", half_read(true), half_read(false), 0xFFFE);
     case(b"digit above 9", bad_digit(true), bad_digit(false), 0x0100);
-    case(b"refused counts", no_counts(true), no_counts(false), 0xFFFF);
-    case(b"refused latch", no_latch(true), no_latch(false), 0);
+    case(b"refused counts", too_many(true), too_many(false), 0xFFFF);
+    case(b"refused latch", past_end(true), past_end(false), 0);
 }
 
 fn in_one_call() {
     say_count(b"fresh", fresh(), 0);
     say_count(b"after 3 counts", counts(fresh(), 3), 0);
+    let bcd = write(fresh(), COMMAND, BOTH_BYTES_BCD);
+    say_count(b"in BCD after 1 count", counts(bcd, 1), 0);
     say_count(b"channel 3", fresh(), 3);
     say_count(b"low byte only", write(fresh(), COMMAND, LOW_BYTE), 0);
     say_count(b"latched", write(fresh(), COMMAND, LATCH), 0);
@@ -267,6 +288,7 @@ fn in_one_call() {
 
 fn main() {
     exclusions();
+    unlatched();
     conditions();
     in_one_call();
 }

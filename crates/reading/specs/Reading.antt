@@ -1,4 +1,4 @@
--- Demand 3's run: "make n counts, latch, read two bytes, all in accepted calls."
+-- Demand 3's reading: "make n counts, latch, read two bytes, all in accepted calls."
 use Prim.Native.Nat.{ℕ, _+_, _*_}
 use mathlib.Core.Bool.{Bool, cond}
 use mathlib.Core.List.{List, [], _∷_, _++_}
@@ -11,7 +11,7 @@ use Rattle.board.specs.declared.Board.{Board}
 use Rattle.board.specs.Outcome.{Value}
 use Rattle.ports.specs.declared.port.Port.the-variants.{Command}
 use Rattle.ports.specs.Port.{portOf}
-use Rattle.step.specs.Operation.{Operation, WritePort, ReadPort, SetChannelGate, Counts, LoadCycle, CatchUp, Run as RunFor, Reset, GetOutputState, GetChannelCount, DoesChannelRetrigger, IsDirty, GetTimerAccum}
+use Rattle.step.specs.Operation.{Operation, WritePort, ReadPort, SetChannelGate, Counts, LoadCycle, CatchUp, Run, Reset, GetOutputState, GetChannelCount, DoesChannelRetrigger, IsDirty, GetTimerAccum}
 use Rattle.step.specs.Step.{step, steps}
 use Rattle.reading.specs.Beginning.{Begins}
 use Rattle.reading.specs.Passing.{AllMayPass}
@@ -29,7 +29,7 @@ Latches i (SetChannelGate channel level events place) = ⊥
 Latches i (Counts channel number) = ⊥
 Latches i (LoadCycle channel) = ⊥
 Latches i (CatchUp given) = ⊥
-Latches i (RunFor given) = ⊥
+Latches i (Run given) = ⊥
 Latches i Reset = ⊥
 Latches i (GetOutputState channel) = ⊥
 Latches i (GetChannelCount channel) = ⊥
@@ -45,7 +45,7 @@ countsIn i (SetChannelGate channel level events place) = 0
 countsIn i (Counts channel number) = cond (eqb channel i) number 0
 countsIn i (LoadCycle channel) = 0
 countsIn i (CatchUp given) = 0
-countsIn i (RunFor given) = 0
+countsIn i (Run given) = 0
 countsIn i Reset = 0
 countsIn i (GetOutputState channel) = 0
 countsIn i (GetChannelCount channel) = 0
@@ -62,16 +62,17 @@ countsOn i (o ∷ os) = countsIn i o + countsOn i os
 abbrev pub readOf : ℕ → Operation
 readOf i = ReadPort (0x40 + i)
 
--- the plain latch command of channel i, which raises no event and wants no room; and after it the reads of its two bytes
+-- the plain latch command of channel i, which raises no event and wants no room
 abbrev pub latchOf : ℕ → Operation
 latchOf i = WritePort 0x43 (i * 64) [] 0
 
+-- the shortest reading: the latch, and the reads of the two bytes
 abbrev pub threeCalls : ℕ → List Operation
 threeCalls i = latchOf i ∷ readOf i ∷ readOf i ∷ []
 
--- The calls of the run, in their order, from board b: before the latch, the latch, between the latch and the first read, that read,
+-- The calls of a reading, in their order, from board b: before the latch, the latch, between the latch and the first read, that read,
 -- between the two reads, and the second read.
-pub record Run (b : Board) (i : ℕ) (bcd : Bool) (v : ℕ) : Type 0 where
+pub record Reading (b : Board) (i : ℕ) (bcd : Bool) (v : ℕ) : Type 0 where
   pub begins : Begins b i bcd v
   pub before : List Operation
   pub latch : Operation
@@ -83,23 +84,23 @@ pub record Run (b : Board) (i : ℕ) (bcd : Bool) (v : ℕ) : Type 0 where
   pub between-may : AllMayPass i between
   pub all-accepted : AllAccepted b (before ++ latch ∷ held ++ readOf i ∷ between ++ readOf i ∷ [])
 
-module _ {b : Board} {i : ℕ} {bcd : Bool} {v : ℕ} (run : Run b i bcd v) where
+module _ {b : Board} {i : ℕ} {bcd : Bool} {v : ℕ} (reading : Reading b i bcd v) where
   -- n
   abbrev pub countsMade : ℕ
-  countsMade = countsOn i (run .before)
+  countsMade = countsOn i (reading .before)
 
   -- all counts that were made on the channel, those after the latch too
   abbrev pub countsInAll : ℕ
-  countsInAll = countsOn i (run .before) + countsOn i (run .held) + countsOn i (run .between)
+  countsInAll = countsOn i (reading .before) + countsOn i (reading .held) + countsOn i (reading .between)
 
   -- the board when the turn of the first read comes, and of the second
   abbrev pub atFirst : Board
-  atFirst = steps b (run .before ++ run .latch ∷ run .held)
+  atFirst = steps b (reading .before ++ reading .latch ∷ reading .held)
 
   abbrev pub atSecond : Board
-  atSecond = steps b (run .before ++ run .latch ∷ run .held ++ readOf i ∷ run .between)
+  atSecond = steps b (reading .before ++ reading .latch ∷ reading .held ++ readOf i ∷ reading .between)
 
-  -- the board after it
+  -- the board after the second read
   abbrev pub atEnd : Board
   atEnd = step atSecond (readOf i) .board
 
