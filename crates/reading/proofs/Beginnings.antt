@@ -29,16 +29,14 @@ use Rattle.board.proofs.Channels.{put-found}
 use Rattle.board.specs.Outcome.{Value}
 use Rattle.board.specs.Making.{fresh}
 use Rattle.board.specs.Counting.{loadCycle}
-use Rattle.ports.specs.declared.port.Port.the-variants.{Command}
-use Rattle.ports.specs.Port.{portOf}
-use Rattle.ports.specs.Writes.{writePort}
-use Rattle.step.specs.Operation.{WritePort, LoadCycle}
+use Rattle.step.specs.Operation.{LoadCycle}
 use Rattle.step.specs.Step.{step}
 use Rattle.step.proofs.Three.{fresh-three, step-three}
 use Rattle.reading.specs.Beginning.{Begins}
+use Rattle.reading.specs.Reading.{controlWrite}
 use Rattle.reading.specs.ReadCount.{mayBegin}
 use Rattle.reading.proofs.ThreeCalls.{begin-free, begin-access, begin-whole}
-use Rattle.reading.proofs.Turns.{settled-board}
+use Rattle.reading.proofs.Turns.{command-turn}
 
 zero-good : GoodDigits 0
 zero-good = omega arith
@@ -67,30 +65,24 @@ fresh-begins model divisor i on =
     }
 
 module _ (b : Board) (three : length (b .channels) ≡ 3) (i : ℕ) (on : i < 3) where
-  module _ (port x : ℕ) (events : List ℕ) (place : ℕ) (word : ControlWord) (command : portOf port ≡ Command) (sets : commandOf x ≡ SetMode i word) where
-    set-record : (value : Value) → writePort b port x events place .reply ≡ accepted value
-        → channelAt (writePort b port x events place .board) i ≡ setMode (channelAt b i) word (b .model)
-    unfolding writePort
-    set-record value =
-        rw (command, sets)
-        (λ took. ap (λ (d : Board). channelAt d i) (settled-board b i _ events place value took) ∙ put-found b three i on _)
-
-    pub mode-begins : (value : Value) → step b (WritePort port x events place) .reply ≡ accepted value → word .«rw_mode» ≡ LsbMsb
-        → Begins (step b (WritePort port x events place) .board) i (word .«bcd_mode») 0
-    unfolding setMode
-    mode-begins value took both =
-        let at : channelAt (writePort b port x events place .board) i ≡ setMode (channelAt b i) word (b .model) = set-record value took in
-        record {
-          on-board = on;
-          low-then-high = ap (λ (c : Channel). c .control .«rw_mode») at ∙ both;
-          not-latched = ap (λ (c : Channel). c .latch .«count_is_latched») at;
-          no-half-read = ap (λ (c : Channel). c .latch .«read_state») at;
-          radix = ap (λ (c : Channel). c .control .«bcd_mode») at;
-          element = ap (λ (c : Channel). c .counter .«counting_element») at;
-          four-digits = λ is. zero-good;
-          three-channels = step-three b three (WritePort port x events place);
-          sixteen-bits = omega arith;
-        }
+  pub mode-begins : (x : ℕ) (events : List ℕ) (place : ℕ) (word : ControlWord) → commandOf x ≡ SetMode i word → word .«rw_mode» ≡ LsbMsb
+      → (value : Value) × (step b (controlWrite x events place) .reply ≡ accepted value)
+      → Begins (step b (controlWrite x events place) .board) i (word .«bcd_mode») 0
+  unfolding setMode
+  mode-begins x events place word sets both took =
+      let at : channelAt (step b (controlWrite x events place) .board) i ≡ setMode (channelAt b i) word (b .model) =
+      command-turn b three i on x events place (SetMode i word) (setMode (channelAt b i) word (b .model)) sets refl took in
+      record {
+        on-board = on;
+        low-then-high = ap (λ (c : Channel). c .control .«rw_mode») at ∙ both;
+        not-latched = ap (λ (c : Channel). c .latch .«count_is_latched») at;
+        no-half-read = ap (λ (c : Channel). c .latch .«read_state») at;
+        radix = ap (λ (c : Channel). c .control .«bcd_mode») at;
+        element = ap (λ (c : Channel). c .counter .«counting_element») at;
+        four-digits = λ is. zero-good;
+        three-channels = step-three b three (controlWrite x events place);
+        sixteen-bits = omega arith;
+      }
 
 -- the record that a load cycle leaves where the value is moved
 module _ (c : Channel) (waits : c .counter .«channel_state» ≡ WaitingForLoadCycle) where

@@ -36,7 +36,8 @@ use Rattle.step.proofs.Deciding.{refused-not}
 use Rattle.step.proofs.Three.{step-three}
 use Rattle.step.proofs.Touched.{write-stays, untouched-stays}
 use Rattle.reading.specs.Passing.{MayWrite, MayPass, AllMayPass}
-use Rattle.reading.specs.Reading.{AllAccepted, countsIn, countsOn}
+use Rattle.reading.specs.Counts.{countsIn, countsOn}
+use Rattle.reading.specs.Reading.{AllAccepted}
 use Rattle.reading.proofs.Counted.{Counted, counted-none, counted-kept, counted-then, counted-counts}
 
 -- channel n is the one that is read, or another

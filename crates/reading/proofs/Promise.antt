@@ -15,7 +15,8 @@ use Rattle.step.specs.Step.{steps}
 use Rattle.step.proofs.Three.{steps-three}
 use Rattle.reading.specs.Beginning.{Begins}
 use Rattle.reading.specs.Passing.{AllMayPass}
-use Rattle.reading.specs.Reading.{AllAccepted, countsOn, countsMade, firstReply, secondReply}
+use Rattle.reading.specs.Counts.{countsOn}
+use Rattle.reading.specs.Reading.{AllAccepted, countsMade, firstReply, secondReply}
 use Rattle.reading.specs.Spelling.{remaining}
 use Rattle.reading.specs.ReadCount.{readCount}
 use Rattle.reading.specs.Promise.{ReadsTheCount, NeverAlike, BeginsAgain, CountsThenReads, AsThreeCalls}

@@ -2,11 +2,13 @@
 use Prim.Native.Nat.{ℕ, _+_, _<_}
 use mathlib.Core.Bool.{Bool}
 use mathlib.Core.List.{[], _∷_, _++_}
-use mathlib.Core.Path.{_≡_, sym, ap, subst, _∙_}
+use mathlib.Core.Path.{_≡_, refl, sym, ap, subst, _∙_}
 use lib.ListN.{length}
 use Rattle.refusal.specs.Reply.{accepted}
 use Rattle.channel.specs.declared.ControlWord.{ControlWord}
 use Rattle.channel.specs.declared.ReadState.the-variants.{NoRead, ReadLsb}
+use Rattle.control.specs.declared.Command.the-variants.{LatchCount}
+use Rattle.latch.specs.Latching.{latchCount}
 use Rattle.latch.specs.Reading.{readByte}
 use Rattle.board.specs.declared.Board.{Board}
 use Rattle.board.specs.Board.{channelAt}
@@ -14,13 +16,14 @@ use Rattle.board.specs.Outcome.{byte}
 use Rattle.step.specs.Step.{step, steps}
 use Rattle.step.proofs.Three.{step-three, steps-three}
 use Rattle.reading.specs.Beginning.{Begins}
-use Rattle.reading.specs.Reading.{AllAccepted, countsOn, readOf, Reading, countsMade, countsInAll, atFirst, atSecond, atEnd, firstReply, secondReply}
+use Rattle.reading.specs.Counts.{countsOn}
+use Rattle.reading.specs.Reading.{AllAccepted, readOf, Reading, latch, countsMade, countsInAll, atFirst, atSecond, atEnd, firstReply, secondReply}
 use Rattle.reading.specs.Spelling.{remaining, Spells}
 use Rattle.reading.proofs.Counted.{Counted}
 use Rattle.reading.proofs.Passing.{all-pass}
 use Rattle.reading.proofs.Listed.{steps-then, accepted-first, accepted-then}
 use Rattle.reading.proofs.Holds.{Holds, latch-holds, counted-holds, first-byte, first-holds, second-byte, second-control, second-ends, second-whole}
-use Rattle.reading.proofs.Turns.{read-reply, read-leaves, latch-turn}
+use Rattle.reading.proofs.Turns.{read-reply, read-leaves, command-turn}
 use Rattle.reading.proofs.Stands.{Stands, counted-stands, latch-stands, read-stands}
 use Rattle.reading.proofs.Spelling.{left-below, left-good, left-again}
 
@@ -33,7 +36,7 @@ module _ {b : Board} {i : ℕ} {bcd : Bool} {v : ℕ} (reading : Reading b i bcd
   b1 = steps b (reading .before)
 
   abbrev b2 : Board
-  b2 = step b1 (reading .latch) .board
+  b2 = step b1 (latch reading) .board
 
   abbrev b3 : Board
   b3 = steps b2 (reading .held)
@@ -48,7 +51,7 @@ module _ {b : Board} {i : ℕ} {bcd : Bool} {v : ℕ} (reading : Reading b i bcd
   three1 = steps-three b (reading .begins .three-channels) (reading .before)
 
   three2 : length (b2 .channels) ≡ 3
-  three2 = step-three b1 three1 (reading .latch)
+  three2 = step-three b1 three1 (latch reading)
 
   three3 : length (b3 .channels) ≡ 3
   three3 = steps-three b2 three2 (reading .held)
@@ -57,40 +60,45 @@ module _ {b : Board} {i : ℕ} {bcd : Bool} {v : ℕ} (reading : Reading b i bcd
   three4 = step-three b3 three3 (readOf i)
 
   at-first : atFirst reading ≡ b3
-  at-first = steps-then b (reading .before) (reading .latch ∷ reading .held)
+  at-first = steps-then b (reading .before) (latch reading ∷ reading .held)
 
   at-second : atSecond reading ≡ b5
   at-second =
-      steps-then b (reading .before ++ reading .latch ∷ reading .held) (readOf i ∷ reading .between)
+      steps-then b (reading .before ++ latch reading ∷ reading .held) (readOf i ∷ reading .between)
       ∙ ap (λ (d : Board). steps d (readOf i ∷ reading .between)) at-first
 
   -- each call is accepted when its turn comes
-  up-to-second : AllAccepted b (reading .before ++ reading .latch ∷ reading .held ++ readOf i ∷ reading .between)
-  up-to-second = accepted-first b (reading .before ++ reading .latch ∷ reading .held ++ readOf i ∷ reading .between) (readOf i ∷ []) (reading .all-accepted)
+  up-to-second : AllAccepted b (reading .before ++ latch reading ∷ reading .held ++ readOf i ∷ reading .between)
+  up-to-second = accepted-first b (reading .before ++ latch reading ∷ reading .held ++ readOf i ∷ reading .between) (readOf i ∷ []) (reading .all-accepted)
 
-  up-to-first : AllAccepted b (reading .before ++ reading .latch ∷ reading .held)
-  up-to-first = accepted-first b (reading .before ++ reading .latch ∷ reading .held) (readOf i ∷ reading .between) up-to-second
+  up-to-first : AllAccepted b (reading .before ++ latch reading ∷ reading .held)
+  up-to-first = accepted-first b (reading .before ++ latch reading ∷ reading .held) (readOf i ∷ reading .between) up-to-second
 
-  from-latch : AllAccepted b1 (reading .latch ∷ reading .held)
-  from-latch = accepted-then b (reading .before) (reading .latch ∷ reading .held) up-to-first
+  from-latch : AllAccepted b1 (latch reading ∷ reading .held)
+  from-latch = accepted-then b (reading .before) (latch reading ∷ reading .held) up-to-first
 
   from-first : AllAccepted b3 (readOf i ∷ reading .between)
-  from-first = rw at-first at (accepted-then b (reading .before ++ reading .latch ∷ reading .held) (readOf i ∷ reading .between) up-to-second)
+  from-first = rw at-first at (accepted-then b (reading .before ++ latch reading ∷ reading .held) (readOf i ∷ reading .between) up-to-second)
 
   -- n counts up to the latch
   counted : Counted (countsMade reading) (channelAt b i) (channelAt b1 i)
   counted =
-      all-pass b (reading .begins .three-channels) i on (reading .before) (reading .before-may) (accepted-first b (reading .before) (reading .latch ∷ reading .held) up-to-first)
+      all-pass b (reading .begins .three-channels) i on (reading .before) (reading .before-may) (accepted-first b (reading .before) (latch reading ∷ reading .held) up-to-first)
 
   stands1 : Stands bcd (remaining bcd v (countsMade reading)) (channelAt b1 i)
   stands1 =
       counted-stands (countsMade reading) (reading .begins .sixteen-bits) (reading .begins .four-digits) counted
       (record { in-radix = reading .begins .radix; at = reading .begins .element })
 
+  latched2 : channelAt b2 i ≡ latchCount (channelAt b1 i)
+  latched2 =
+      command-turn b1 three1 i on (reading .latchByte) (reading .events) (reading .place) (LatchCount i) (latchCount (channelAt b1 i)) (reading .latches) refl
+      (from-latch .0)
+
   -- from the latch to the first read, and on to the second, the record holds what was left
   holds2 : Holds (remaining bcd v (countsMade reading)) NoRead (channelAt b2 i)
   holds2 =
-      rw (latch-turn b1 three1 i on (reading .latch) (reading .latches) (from-latch .0), ← stands1 .at)
+      rw (latched2, ← stands1 .at)
       (latch-holds (channelAt b1 i) (ap (λ (w : ControlWord). w .«rw_mode») (counted .same-control) ∙ reading .begins .low-then-high)
       (counted .same-half ∙ reading .begins .no-half-read))
 
@@ -124,7 +132,7 @@ module _ {b : Board} {i : ℕ} {bcd : Bool} {v : ℕ} (reading : Reading b i bcd
   stands3 =
       rw (← left-again bcd v (countsMade reading) (countsOn i (reading .held)))
       (counted-stands (countsOn i (reading .held)) (left-below bcd v (countsMade reading)) (left-good bcd v (countsMade reading)) passed3
-      (rw (latch-turn b1 three1 i on (reading .latch) (reading .latches) (from-latch .0)) (latch-stands stands1)))
+      (rw latched2 (latch-stands stands1)))
 
   stands5 : Stands bcd (remaining bcd v (countsInAll reading)) (channelAt b5 i)
   stands5 =

@@ -1,5 +1,6 @@
 pub mod Beginning
 pub mod Passing
+pub mod Counts
 pub mod Reading
 pub mod Spelling
 pub mod Word

@@ -11,7 +11,8 @@ use Rattle.step.specs.Operation.{Operation}
 use Rattle.step.specs.Step.{steps}
 use Rattle.reading.specs.Beginning.{Begins}
 use Rattle.reading.specs.Passing.{AllMayPass}
-use Rattle.reading.specs.Reading.{AllAccepted, countsOn, threeCalls, Reading, countsMade, countsInAll, atEnd, firstReply, secondReply}
+use Rattle.reading.specs.Counts.{countsOn}
+use Rattle.reading.specs.Reading.{AllAccepted, threeCalls, Reading, countsMade, countsInAll, atEnd, firstReply, secondReply}
 use Rattle.reading.specs.Spelling.{modulus, remaining, Spells}
 use Rattle.reading.specs.ReadCount.{mayBegin, readCount}
 
