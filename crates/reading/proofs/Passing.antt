@@ -32,7 +32,7 @@ use Rattle.ports.specs.Writes.{writeTo, writePort}
 use Rattle.step.specs.Operation.{Operation, WritePort, ReadPort, SetChannelGate, Counts, LoadCycle, CatchUp, Run, Reset, GetOutputState, GetChannelCount, DoesChannelRetrigger, IsDirty, GetTimerAccum}
 use Rattle.step.specs.Step.{step, steps}
 use Rattle.step.specs.Touched.{Touches}
-use Rattle.step.proofs.Deciding.{refused-not}
+use Rattle.refusal.proofs.Apart.{refused-not}
 use Rattle.step.proofs.Three.{step-three}
 use Rattle.step.proofs.Touched.{write-stays, untouched-stays}
 use Rattle.reading.specs.Passing.{MayWrite, MayPass, AllMayPass}

@@ -19,7 +19,7 @@ use Rattle.ports.specs.Settle.{callReply, boardAfter, levelEvent, settle}
 use Rattle.ports.specs.Reads.{dataRead, readFrom, readPort}
 use Rattle.ports.specs.Writes.{controlRegisterWrite, writePort}
 use Rattle.step.specs.Step.{step}
-use Rattle.step.proofs.Deciding.{refused-not}
+use Rattle.refusal.proofs.Apart.{refused-not}
 use Rattle.reading.specs.Reading.{readOf, controlWrite}
 
 pub read-turn : (b : Board) (i : ℕ) → i < 3 → step b (readOf i) ≡ dataRead b i

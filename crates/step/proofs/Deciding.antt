@@ -1,27 +1,14 @@
 -- A reply that is decided by tests, one after another, is a refusal exactly when the first test that holds is that refusal's. Assumes nothing.
 use Prim.Native.Nat.{ℕ, _<_}
-use mathlib.Core.Path.{_≡_, refl, sym, ap, subst}
+use mathlib.Core.Path.{_≡_, refl, sym, ap}
 use mathlib.Core.Bool.{Bool, true, false, cond, _&&_, false≢true}
 use mathlib.Core.List.{List, [], _∷_}
 use mathlib.Core.Logic.{_⊎_, inl, inr, ⊎-elim, _↔_}
 use lib.Dec.{ltb, eqb}
 use borrow.Author.Tests.{ltb-true, lt-ltb, eqb-true, eq-eqb}
-use Rattle.refusal.specs.Reply.{Reply, refused, accepted}
+use Rattle.refusal.specs.Reply.{Reply, refused, accepted, numberIn}
+use Rattle.refusal.proofs.Apart.{not-refused}
 use Rattle.step.specs.Refusals.{Row, FirstOf}
-
-abbrev numberIn : {A : Type 0} → Reply A → ℕ
-numberIn (refused number) = number
-numberIn (accepted value) = 0
-
-abbrev Refuses : {A : Type 0} → Reply A → Type 0
-Refuses (refused number) = Unit
-Refuses (accepted value) = ⊥
-
-pub not-refused : {A : Type 0} (value : A) (k : ℕ) → accepted value ≡ refused k → ⊥
-not-refused value k e = subst Refuses (sym e) tt
-
-pub refused-not : {A : Type 0} (k : ℕ) (value : A) → refused k ≡ accepted value → ⊥
-refused-not k value e = not-refused value k (sym e)
 
 -- nothing is left to refuse
 pub accepts : {A : Type 0} (value : A) (k : ℕ) → (accepted value ≡ refused k) ↔ FirstOf [] k

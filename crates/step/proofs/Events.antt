@@ -37,7 +37,7 @@ use Rattle.step.specs.Operation.{WritePort, SetChannelGate}
 use Rattle.step.specs.Step.{step}
 use Rattle.step.specs.Levels.{levelAt}
 use Rattle.gate.specs.Gate.{setGate}
-use Rattle.step.proofs.Deciding.{refused-not}
+use Rattle.refusal.proofs.Apart.{refused-not}
 use Rattle.step.specs.Events.{NoEvent, OneEvent, Told, ToldBy}
 
 abbrev placeIn : Value → ℕ

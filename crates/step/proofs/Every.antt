@@ -21,6 +21,7 @@ use Rattle.time.specs.Time.{Yield, converted, summed}
 use Rattle.board.specs.declared.Board.{Board}
 use Rattle.board.specs.Board.{withChannels}
 use Rattle.board.specs.Outcome.{Outcome, Value, done, newPlace, refuse, accept, onChannel}
+use Rattle.board.proofs.Channels.{by-channel}
 use Rattle.board.specs.Making.{reset}
 use Rattle.board.specs.Counting.{counts, loadCycle}
 use Rattle.board.specs.Queries.{getOutputState, getChannelCount, doesChannelRetrigger, isDirty}
@@ -44,21 +45,19 @@ module _ (b : Board) (P : List ℕ → ℕ → Outcome → Type 0)
     → (length (b .channels) ≡ 3 → length channels ≡ 3)
     → P events 0 (record { reply = accepted value; board = withChannels b channels; events = bytes }))
   where
-    on-channel : (n : ℕ) (events : List ℕ) (outcome : Outcome) → P events 0 outcome → P events 0 (onChannel b n events outcome)
-    on-channel n events outcome = pick-holds (P events 0) (ltb 2 n) (refuse 2 b events) outcome (refuses events 2)
-
     put-three : (n : ℕ) (c : Channel) → length (b .channels) ≡ 3 → length (set (b .channels) n c) ≡ 3
     put-three n c three = length-set (b .channels) n c ∙ three
 
     accepted-on : (n : ℕ) (value : Value) (channels : List Channel) → ticksIn value ≡ 0 → (length (b .channels) ≡ 3 → length channels ≡ 3)
         → P [] 0 (onChannel b n [] (accept value (withChannels b channels)))
-    accepted-on n value channels none three = on-channel n [] _ (accepts [] [] value channels none refl three)
+    accepted-on n value channels none three =
+        by-channel (P [] 0) b n [] _ (refuses [] 2) (λ on. accepts [] [] value channels none refl three)
 
     counts-every : (n number : ℕ) → P [] 0 (counts b n number)
     unfolding counts
     counts-every n number =
-        on-channel n [] _
-        (pick-holds (P [] 0) (ltb 65536 number) (refuse 6 b []) _ (refuses [] 6) (accepts [] [] done _ refl refl (put-three n _)))
+        by-channel (P [] 0) b n [] _ (refuses [] 2)
+        (λ on. pick-holds (P [] 0) (ltb 65536 number) (refuse 6 b []) _ (refuses [] 6) (accepts [] [] done _ refl refl (put-three n _)))
 
     event-every : (event : Event) (channels : List Channel) (events : List ℕ) (place : ℕ) → (length (b .channels) ≡ 3 → length channels ≡ 3)
         → P events 0 (placedOn b (withChannels b channels) (placeEvent event events place))
@@ -84,7 +83,8 @@ module _ (b : Board) (P : List ℕ → ℕ → Outcome → Type 0)
 
     gate-every : (n : ℕ) (level : Bool) (events : List ℕ) (place : ℕ) → P events 0 (setChannelGate b n level events place)
     unfolding setChannelGate settle
-    gate-every n level events place = on-channel n events _ (event-every _ _ events place (put-three n _))
+    gate-every n level events place =
+        by-channel (P events 0) b n events _ (refuses events 2) (λ on. event-every _ _ events place (put-three n _))
 
     read-every : (port : Port) → P [] 0 (readFrom b port)
     read-every (Data n) = accepts [] [] _ _ refl refl (put-three n _)

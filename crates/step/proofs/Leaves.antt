@@ -7,7 +7,7 @@ use Rattle.board.specs.declared.Board.{Board}
 use Rattle.board.specs.Outcome.{Outcome}
 use Rattle.step.specs.Operation.{Operation, lent}
 use Rattle.step.specs.Step.{step}
-use Rattle.step.proofs.Deciding.{not-refused}
+use Rattle.refusal.proofs.Apart.{not-refused}
 use Rattle.step.proofs.Every.{every-step}
 
 abbrev Leaves : Board → List ℕ → Outcome → Type 0

@@ -1,23 +1,22 @@
 -- Of the other operations none moves an output, but a reset, which raises no event. Assumes nothing.
-use Prim.Native.Nat.{ℕ, zero, suc, _<_, _≤_}
-use mathlib.Core.Bool.{true, false, true≢false}
+use Prim.Native.Nat.{ℕ, zero, suc, _<_}
+use mathlib.Core.Bool.{false, true≢false}
 use mathlib.Core.List.{[]}
 use mathlib.Core.Path.{_≡_, refl, ap, _∙_}
-use native.Mathlib.Omega.{arith}
 use lib.Dec.{ltb}
 use lib.ListN.{length}
-use borrow.Author.Tests.{ltb-false}
 use Rattle.numbers.specs.Times.{times}
 use Rattle.channel.specs.declared.Channel.{Channel}
 use Rattle.channel.specs.declared.Pins.{Pins}
 use Rattle.channel.specs.Shared.{putElement}
-use Rattle.channel.proofs.Pick.{pick-holds, pick-knowing}
+use Rattle.channel.proofs.Pick.{pick-holds}
 use Rattle.count.specs.Count.{count}
 use Rattle.latch.specs.Reading.{readByte}
 use Rattle.load.proofs.Stays.{pins-stay}
 use Rattle.board.specs.declared.Board.{Board}
 use Rattle.board.specs.Board.{channelAt, withChannel}
-use Rattle.board.specs.Outcome.{Outcome, refuse, onChannel}
+use Rattle.board.specs.Outcome.{Outcome, refuse}
+use Rattle.board.proofs.Channels.{by-channel}
 use Rattle.board.specs.Counting.{counts, loadCycle}
 use Rattle.board.specs.Queries.{isDirty}
 use Rattle.ports.specs.declared.port.Port.{Port}
@@ -49,10 +48,6 @@ module _ (b : Board) (three : length (b .channels) ≡ 3) (m : ℕ) where
   abbrev Still : Outcome → Type 0
   Still outcome = levelAt (outcome .board) m ≡ levelAt b m
 
-  on-channel : (n : ℕ) (outcome : Outcome) → (n < 3 → Still outcome) → Still (onChannel b n [] outcome)
-  on-channel n outcome still =
-      pick-knowing Still (ltb 2 n) (refuse 2 b []) outcome (λ above. refl) (λ on. let h : n ≤ 2 = ltb-false 2 n on in still (omega arith))
-
   put-still : (n : ℕ) → n < 3 → (c : Channel) → c .pins ≡ channelAt b n .pins → levelAt (withChannel b n c) m ≡ levelAt b m
   put-still n on c same = all-stand b three n on c (ap (λ (p : Pins). p .output) same) m
 
@@ -68,7 +63,7 @@ module _ (b : Board) (three : length (b .channels) ≡ 3) (m : ℕ) where
   counts-still : (n number : ℕ) → Still (counts b n number)
   unfolding counts
   counts-still n number =
-      on-channel n _
+      by-channel Still b n [] _ refl
       (λ on.
       pick-holds Still (ltb 65536 number) (refuse 6 b []) _ refl
       (put-still n on (times number count (channelAt b n)) (counts-pins number (channelAt b n))))
@@ -79,12 +74,12 @@ module _ (b : Board) (three : length (b .channels) ≡ 3) (m : ℕ) where
   others-still (ReadPort port) moves = read-still port (portOf port) refl
   others-still (SetChannelGate n level events place) moves = absurd (true≢false moves)
   others-still (Counts n number) moves = counts-still n number
-  others-still (LoadCycle n) moves = on-channel n _ (λ on. put-still n on _ (pins-stay (channelAt b n)))
+  others-still (LoadCycle n) moves = by-channel Still b n [] _ refl (λ on. put-still n on _ (pins-stay (channelAt b n)))
   others-still (CatchUp given) moves = stays-still (CatchUp given) (λ none. none)
   others-still (Run given) moves = stays-still (Run given) (λ none. none)
   others-still Reset moves = absurd (true≢false moves)
   others-still (GetOutputState n) moves = stays-still (GetOutputState n) (λ none. none)
   others-still (GetChannelCount n) moves = stays-still (GetChannelCount n) (λ none. none)
   others-still (DoesChannelRetrigger n) moves = stays-still (DoesChannelRetrigger n) (λ none. none)
-  others-still (IsDirty n) moves = on-channel n _ (λ on. put-still n on _ refl)
+  others-still (IsDirty n) moves = by-channel Still b n [] _ refl (λ on. put-still n on _ refl)
   others-still GetTimerAccum moves = stays-still GetTimerAccum (λ none. none)

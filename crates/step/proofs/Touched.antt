@@ -10,20 +10,19 @@ use Rattle.channel.proofs.Pick.{pick-holds}
 use Rattle.control.specs.declared.Command.{Command}
 use Rattle.control.specs.declared.Command.the-variants.{Nothing, LatchCount, SetMode}
 use Rattle.control.specs.Control.{commandOf}
-use Rattle.event.specs.declared.Event.the-variants.{Unchanged}
-use Rattle.event.specs.Event.{placeEvent}
 use Rattle.time.specs.Time.{Yield}
 use Rattle.board.specs.declared.Board.{Board}
-use Rattle.board.specs.Board.{channelAt, withChannel}
-use Rattle.board.proofs.Channels.{put-other}
-use Rattle.board.specs.Outcome.{Outcome, refuse, accept, onChannel}
+use Rattle.board.specs.Board.{channelAt}
+use Rattle.board.proofs.Channels.{put-other, by-channel}
+use Rattle.board.specs.Outcome.{Outcome, refuse, accept}
 use Rattle.board.specs.Counting.{counts, loadCycle}
 use Rattle.board.specs.Queries.{getOutputState, getChannelCount, doesChannelRetrigger, isDirty}
 use Rattle.clock.specs.Clock.{elapsed, yielding, catchUp, run}
 use Rattle.ports.specs.declared.port.Port.{Port}
 use Rattle.ports.specs.declared.port.Port.the-variants.{Data, Command as CommandPort, Unknown}
 use Rattle.ports.specs.Port.{portOf}
-use Rattle.ports.specs.Settle.{boardAfter, levelEvent, settle, untouched}
+use Rattle.ports.specs.Settle.{settle}
+use Rattle.ports.proofs.Settled.{untouched-holds, settle-holds}
 use Rattle.ports.specs.Gates.{setChannelGate}
 use Rattle.ports.specs.Reads.{readFrom, readPort}
 use Rattle.ports.specs.Writes.{controlRegisterWrite, writeTo, writePort}
@@ -35,20 +34,11 @@ module _ (b : Board) (m : ℕ) where
   abbrev Stays : Outcome → Type 0
   Stays outcome = channelAt (outcome .board) m ≡ channelAt b m
 
-  on-channel : (n : ℕ) (events : List ℕ) (outcome : Outcome) → Stays outcome → Stays (onChannel b n events outcome)
-  on-channel n events outcome = pick-holds Stays (ltb 2 n) (refuse 2 b events) outcome refl
-
-  after-stays : (reply : Reply ℕ) (new : Board) → channelAt new m ≡ channelAt b m → channelAt (boardAfter reply b new) m ≡ channelAt b m
-  after-stays (refused number) new stays = refl
-  after-stays (accepted place) new stays = stays
-
   settle-stays : (n : ℕ) (c : Channel) (events : List ℕ) (place : ℕ) → (m ≡ n → ⊥) → Stays (settle b n c events place)
-  unfolding settle
-  settle-stays n c events place other = after-stays (placeEvent (levelEvent n (channelAt b n) c) events place .reply) (withChannel b n c) (put-other b n m c other)
+  settle-stays n c events place other = settle-holds b events place n c (λ (d : Board). channelAt d m ≡ channelAt b m) refl (put-other b n m c other)
 
   command-stays : (command : Command) (events : List ℕ) (place : ℕ) → (CommandTouches command m → ⊥) → Stays (controlRegisterWrite b command events place)
-  unfolding untouched
-  command-stays Nothing events place other = after-stays (placeEvent Unchanged events place .reply) b refl
+  command-stays Nothing events place other = untouched-holds b events place (λ (d : Board). channelAt d m ≡ channelAt b m) refl
   command-stays (LatchCount n) events place other = settle-stays n _ events place other
   command-stays (SetMode n word) events place other = settle-stays n _ events place other
 
@@ -68,20 +58,21 @@ module _ (b : Board) (m : ℕ) where
 
   counts-stays : (n number : ℕ) → (m ≡ n → ⊥) → Stays (counts b n number)
   unfolding counts
-  counts-stays n number other = on-channel n [] _ (pick-holds Stays (ltb 65536 number) (refuse 6 b []) _ refl (put-other b n m _ other))
+  counts-stays n number other =
+      by-channel Stays b n [] _ refl (λ on. pick-holds Stays (ltb 65536 number) (refuse 6 b []) _ refl (put-other b n m _ other))
 
   pub untouched-stays : (o : Operation) → (Touches o m → ⊥) → channelAt (step b o .board) m ≡ channelAt b m
   unfolding setChannelGate writePort readPort loadCycle catchUp run getOutputState getChannelCount doesChannelRetrigger isDirty
   untouched-stays (WritePort port byte events place) other = write-stays (portOf port) byte events place other
   untouched-stays (ReadPort port) other = read-stays (portOf port) other
-  untouched-stays (SetChannelGate n level events place) other = on-channel n events _ (settle-stays n _ events place other)
+  untouched-stays (SetChannelGate n level events place) other = by-channel Stays b n events _ refl (λ on. settle-stays n _ events place other)
   untouched-stays (Counts n number) other = counts-stays n number other
-  untouched-stays (LoadCycle n) other = on-channel n [] _ (put-other b n m _ other)
+  untouched-stays (LoadCycle n) other = by-channel Stays b n [] _ refl (λ on. put-other b n m _ other)
   untouched-stays (CatchUp given) other = time-stays given true (elapsed b given)
   untouched-stays (Run given) other = time-stays 0 (b .defer) (elapsed b given)
   untouched-stays Reset other = absurd (other tt)
-  untouched-stays (GetOutputState n) other = on-channel n [] (accept _ b) refl
-  untouched-stays (GetChannelCount n) other = on-channel n [] (accept _ b) refl
-  untouched-stays (DoesChannelRetrigger n) other = on-channel n [] (accept _ b) refl
-  untouched-stays (IsDirty n) other = on-channel n [] _ (put-other b n m _ other)
+  untouched-stays (GetOutputState n) other = by-channel Stays b n [] (accept _ b) refl (λ on. refl)
+  untouched-stays (GetChannelCount n) other = by-channel Stays b n [] (accept _ b) refl (λ on. refl)
+  untouched-stays (DoesChannelRetrigger n) other = by-channel Stays b n [] (accept _ b) refl (λ on. refl)
+  untouched-stays (IsDirty n) other = by-channel Stays b n [] _ refl (λ on. put-other b n m _ other)
   untouched-stays GetTimerAccum other = refl

@@ -15,7 +15,7 @@ use Rattle.clock.proofs.Elapsed.{by-time}
 use Rattle.step.specs.Operation.{Operation, WritePort, ReadPort, SetChannelGate, Counts, LoadCycle, CatchUp, Run, Reset, GetOutputState, GetChannelCount, DoesChannelRetrigger, IsDirty, GetTimerAccum}
 use Rattle.step.specs.Step.{step, steps}
 use Rattle.step.specs.Time.{ifAccepted, taken, allTaken, isTimeCall, NoRun}
-use Rattle.step.proofs.Deciding.{refused-not}
+use Rattle.refusal.proofs.Apart.{refused-not}
 use Rattle.step.proofs.Kept.{time-kept}
 
 -- an accepted catch-up takes in what lies between the old warp and the new; a refused one takes in nothing and leaves the warp
