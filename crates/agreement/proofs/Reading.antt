@@ -1,13 +1,15 @@
 -- R1 and of R2 its end: the bytes that read an output latch out are the sheet's, in its order, and the last of them ends the latch.
 -- Where a word is half read in one-byte access, which no sequence of calls leads to, the sheet is silent and document 01 decides.
 -- Assumes nothing.
-use mathlib.Core.Path.{_≡_}
+use mathlib.Core.Path.{_≡_, ap}
 use mathlib.Core.Bool.{false}
 use Rattle.channel.specs.declared.Channel.{Channel}
 use Rattle.channel.specs.declared.RwMode.{RwMode}
 use Rattle.channel.specs.declared.RwMode.the-variants.{Lsb, Msb, LsbMsb}
 use Rattle.channel.specs.declared.ReadState.the-variants.{NoRead}
+use Rattle.channel.specs.declared.Latch.{Latch}
 use Rattle.latch.specs.Reading.{readByte}
+use Rattle.latch.proofs.Words.{first-latch}
 use Rattle.sheet.specs.Reading.{readOut}
 use Rattle.sheet.specs.Loading.{bytesOf}
 use Rattle.agreement.specs.Words.{sheetAccess}
@@ -33,5 +35,5 @@ reading-ends LsbMsb c e h = (simp (e, h), simp (e, h))
 pub first-holds : (c : Channel) → c .control .«rw_mode» ≡ LsbMsb → c .latch .«read_state» ≡ NoRead
     → (readByte c .channel .latch .«count_is_latched» ≡ c .latch .«count_is_latched»)
     × (readByte c .channel .latch .«output_latch» ≡ c .latch .«output_latch»)
-unfolding readByte
-first-holds c e h = (simp (e, h), simp (e, h))
+first-holds c e h =
+    (ap (λ (l : Latch). l .«count_is_latched») (first-latch c e h), ap (λ (l : Latch). l .«output_latch») (first-latch c e h))

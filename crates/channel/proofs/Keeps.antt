@@ -1,12 +1,11 @@
--- The shared rules that keep the count: entry into a state and a change of the output do, and so does whatever a test picks of things that do. A held latch keeps its word.
+-- The shared rules that keep the count: entry into a state, a change of the output and a new mark do, and so does whatever a test picks of things that do.
 -- Assumes nothing.
-use Prim.Native.Nat.{ℕ}
-use mathlib.Core.Path.{_≡_, refl, _∙_}
+use mathlib.Core.Path.{refl, _∙_}
 use mathlib.Core.Bool.{Bool, true, false, cond}
 use Rattle.channel.specs.declared.Channel.{Channel}
 use Rattle.channel.specs.declared.ChannelState.{ChannelState}
-use Rattle.channel.specs.declared.Latch.{Latch}
-use Rattle.channel.specs.Shared.{changeChannelState, changeOutputState, followed}
+use Rattle.channel.specs.Record.{withDirty}
+use Rattle.channel.specs.Shared.{changeChannelState, changeOutputState}
 use Rattle.channel.specs.Kept.{Kept}
 
 pub kept-same : (c : Channel) → Kept c c
@@ -33,6 +32,5 @@ pub kept-output : (c : Channel) (level : Bool) → Kept c (changeOutputState c l
 unfolding changeOutputState
 kept-output c level = record { control-kept = refl; latch-kept = refl; element-kept = refl; ticked-kept = refl }
 
--- a held latch stays where the counting element goes on
-pub held-follows : (l : Latch) (e : ℕ) → l .«count_is_latched» ≡ true → followed l e ≡ l
-held-follows l e held = simp held
+pub kept-dirty : (c : Channel) (dirty : Bool) → Kept c (withDirty c dirty)
+kept-dirty c dirty = record { control-kept = refl; latch-kept = refl; element-kept = refl; ticked-kept = refl }

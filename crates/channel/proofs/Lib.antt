@@ -1,3 +1,4 @@
 pub mod Modes
 pub mod Pick
 pub mod Keeps
+pub mod Follows

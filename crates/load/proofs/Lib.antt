@@ -1,2 +1,3 @@
 pub mod Keeps
 pub mod Stays
+pub mod Moved

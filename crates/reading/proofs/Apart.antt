@@ -34,8 +34,8 @@ answer-back (Refused refusal) = refused-back refusal
 answer-back NotReadable = refl
 answer-back (Count e) = refl
 
-pub counts-apart : (r s : CountAnswered) → countOutcome r ≡ countOutcome s → r ≡ s
-counts-apart r s e =
+pub count-answers-apart : (r s : CountAnswered) → countOutcome r ≡ countOutcome s → r ≡ s
+count-answers-apart r s e =
     ap₂ (λ (a : CountAnswer) (b : Board). record { answer = a; board = b })
     (apart-by countReply answerOf answer-back (r .answer) (s .answer) (ap (λ (o : CountOutcome). o .reply) e))
     (ap (λ (o : CountOutcome). o .board) e)

@@ -1,7 +1,7 @@
--- A record that holds a word for reading, whole or with its low byte read: a latch makes it so, what passes keeps it so, and its two reads give the word's
+-- A record that holds a word for reading, whole or with its low byte read: a latch makes it so, what disturbs nothing keeps it so, and its two reads give the word's
 -- bytes. Assumes nothing.
 use Prim.Native.Nat.{ℕ, _/_, _%_}
-use mathlib.Core.Bool.{true, false}
+use mathlib.Core.Bool.{true}
 use mathlib.Core.Path.{_≡_, refl, ap, _∙_}
 use Rattle.channel.specs.declared.Channel.{Channel}
 use Rattle.channel.specs.declared.ControlWord.{ControlWord}
@@ -11,7 +11,10 @@ use Rattle.channel.specs.declared.ReadState.{ReadState}
 use Rattle.channel.specs.declared.ReadState.the-variants.{NoRead, ReadLsb}
 use Rattle.latch.specs.Latching.{latchCount}
 use Rattle.latch.specs.Reading.{readByte}
-use Rattle.reading.proofs.Counted.{Counted}
+use Rattle.latch.proofs.Words as words
+use Rattle.reading.specs.Beginning.{mayBegin}
+use Rattle.reading.proofs.Counted.{Undisturbed}
+use Rattle.reading.proofs.May.{low-then-high, no-half-read, may-begin}
 
 pub record Holds (word : ℕ) (half : ReadState) (c : Channel) : Type 0 where
   pub access : c .control .«rw_mode» ≡ LsbMsb
@@ -19,13 +22,12 @@ pub record Holds (word : ℕ) (half : ReadState) (c : Channel) : Type 0 where
   pub held : c .latch .«output_latch» ≡ word
   pub half-read : c .latch .«read_state» ≡ half
 
-pub latch-holds : (c : Channel) → c .control .«rw_mode» ≡ LsbMsb → c .latch .«read_state» ≡ NoRead
-    → Holds (c .counter .«counting_element») NoRead (latchCount c)
+pub latch-holds : (c : Channel) → mayBegin c ≡ true → Holds (c .counter .«counting_element») NoRead (latchCount c)
 unfolding latchCount
-latch-holds c access whole = record { access = access; latched = refl; held = refl; half-read = whole }
+latch-holds c may = record { access = low-then-high c may; latched = refl; held = refl; half-read = no-half-read c may }
 
-pub counted-holds : (k : ℕ) {c d : Channel} {word : ℕ} {half : ReadState} → Counted k c d → Holds word half c → Holds word half d
-counted-holds k p h =
+pub undisturbed-holds : {c d : Channel} {word : ℕ} {half : ReadState} → Undisturbed c d → Holds word half c → Holds word half d
+undisturbed-holds p h =
     record {
       access = ap (λ (w : ControlWord). w .«rw_mode») (p .same-control) ∙ h .access;
       latched = p .same-latched ∙ h .latched;
@@ -36,34 +38,24 @@ counted-holds k p h =
 -- the first read gives the low byte, and the latch stands
 module _ (c : Channel) (word : ℕ) (h : Holds word NoRead c) where
   pub first-byte : readByte c .byte ≡ word % 256
-  unfolding readByte
-  first-byte = simp (h .access, h .half-read, h .held)
+  first-byte = words.first-byte c (h .access) (h .half-read) ∙ ap (λ (x : ℕ). x % 256) (h .held)
 
   pub first-holds : Holds word ReadLsb (readByte c .channel)
-  unfolding readByte
   first-holds =
       record {
-        access = h .access;
-        latched = simp (h .access, h .half-read, h .latched);
-        held = simp (h .access, h .half-read, h .held);
-        half-read = simp (h .access, h .half-read);
+        access = ap (λ (w : ControlWord). w .«rw_mode») (words.read-control c) ∙ h .access;
+        latched = ap (λ (l : Latch). l .«count_is_latched») (words.first-latch c (h .access) (h .half-read)) ∙ h .latched;
+        held = ap (λ (l : Latch). l .«output_latch») (words.first-latch c (h .access) (h .half-read)) ∙ h .held;
+        half-read = ap (λ (l : Latch). l .«read_state») (words.first-latch c (h .access) (h .half-read));
       }
 
--- the second gives the high byte
-pub second-byte : (c : Channel) (word : ℕ) → Holds word ReadLsb c → readByte c .byte ≡ word / 256
-unfolding readByte
-second-byte c word h = simp (h .half-read, h .held)
+-- the second gives the high byte, and a reading may begin again
+module _ (c : Channel) (word : ℕ) (h : Holds word ReadLsb c) where
+  pub second-byte : readByte c .byte ≡ word / 256
+  second-byte = words.second-byte c (h .half-read) ∙ ap (λ (x : ℕ). x / 256) (h .held)
 
--- .. in the access that it was, and ends the latch
-pub second-control : (c : Channel) → c .control .«rw_mode» ≡ LsbMsb → readByte c .channel .control .«rw_mode» ≡ LsbMsb
-unfolding readByte
-second-control c access = access
-
-module _ (c : Channel) (half : c .latch .«read_state» ≡ ReadLsb) where
-  pub second-ends : readByte c .channel .latch .«count_is_latched» ≡ false
-  unfolding readByte
-  second-ends = simp half
-
-  pub second-whole : readByte c .channel .latch .«read_state» ≡ NoRead
-  unfolding readByte
-  second-whole = simp half
+  pub second-may : mayBegin (readByte c .channel) ≡ true
+  second-may =
+      may-begin (readByte c .channel) (ap (λ (l : Latch). l .«count_is_latched») (words.second-latch c (h .half-read)))
+      (ap (λ (w : ControlWord). w .«rw_mode») (words.read-control c) ∙ h .access)
+      (ap (λ (l : Latch). l .«read_state») (words.second-latch c (h .half-read)))

@@ -1,9 +1,11 @@
+pub mod May
 pub mod Counted
 pub mod Spelling
 pub mod Stands
 pub mod Holds
 pub mod Passing
 pub mod Listed
+pub mod After
 pub mod Turns
 pub mod Reading
 pub mod ThreeCalls

@@ -1,32 +1,31 @@
 -- What may pass makes the counts that it says on channel i, and no others. Assumes nothing.
-use Prim.Native.Nat.{ℕ, _<_, _≤_}
+use Prim.Native.Nat.{ℕ, _<_}
 use mathlib.Core.Bool.{Bool, true, false, cond}
 use mathlib.Core.List.{List, [], _∷_}
 use mathlib.Core.Path.{_≡_, refl, sym, subst}
-use native.Mathlib.Omega.{arith}
 use lib.Dec.{ltb, eqb}
 use lib.ListN.{length}
-use borrow.Author.Tests.{eqb-true, eqb-false, le-ltb}
-use Rattle.refusal.specs.Reply.{Reply, refused, accepted}
+use borrow.Author.Tests.{eqb-true, eqb-false}
+use Rattle.refusal.specs.Reply.{accepted}
 use Rattle.numbers.specs.Times.{times}
 use Rattle.channel.specs.declared.Channel.{Channel}
-use Rattle.channel.proofs.Pick.{pick-holds}
+use Rattle.channel.proofs.Keeps.{kept-dirty}
 use Rattle.count.specs.Count.{count}
 use Rattle.load.specs.Write.{writeByte}
 use Rattle.load.proofs.Keeps.{write-keeps}
 use Rattle.gate.specs.Gate.{setGate}
 use Rattle.gate.proofs.Keeps.{gate-keeps}
-use Rattle.event.specs.Event.{placeEvent}
 use Rattle.board.specs.declared.Board.{Board}
 use Rattle.board.specs.Board.{channelAt, withChannel}
-use Rattle.board.proofs.Channels.{put-found}
+use Rattle.board.proofs.Channels.{put-found, not-above, by-channel}
 use Rattle.board.specs.Outcome.{Outcome, Value, done, refuse, accept, onChannel}
 use Rattle.board.specs.Counting.{counts}
 use Rattle.board.specs.Queries.{isDirty}
 use Rattle.ports.specs.declared.port.Port.{Port}
 use Rattle.ports.specs.declared.port.Port.the-variants.{Data, Command, Unknown}
 use Rattle.ports.specs.Port.{portOf}
-use Rattle.ports.specs.Settle.{boardAfter, levelEvent, settle}
+use Rattle.ports.specs.Settle.{settle}
+use Rattle.ports.proofs.Settled.{settle-holds}
 use Rattle.ports.specs.Gates.{setChannelGate}
 use Rattle.ports.specs.Writes.{writeTo, writePort}
 use Rattle.step.specs.Operation.{Operation, WritePort, ReadPort, SetChannelGate, Counts, LoadCycle, CatchUp, Run, Reset, GetOutputState, GetChannelCount, DoesChannelRetrigger, IsDirty, GetTimerAccum}
@@ -61,17 +60,12 @@ module _ (b : Board) (three : length (b .channels) ≡ 3) (i : ℕ) (on : i < 3)
   leaves : (o : Operation) → (Touches o i → ⊥) → After 0 (step b o)
   leaves o other = stays-counted (step b o) (untouched-stays b i o other)
 
-  after-counted : (reply : Reply ℕ) (new : Board) → Counted 0 (channelAt b i) (channelAt new i)
-      → Counted 0 (channelAt b i) (channelAt (boardAfter reply b new) i)
-  after-counted (refused number) new p = counted-none (channelAt b i)
-  after-counted (accepted place) new p = p
-
   settled : (c : Channel) (events : List ℕ) (place : ℕ) → Counted 0 (channelAt b i) c → After 0 (settle b i c events place)
-  unfolding settle
-  settled c events place p = after-counted (placeEvent (levelEvent i (channelAt b i) c) events place .reply) (withChannel b i c) (put-counted 0 c p)
+  settled c events place p =
+      settle-holds b events place i c (λ (d : Board). Counted 0 (channelAt b i) (channelAt d i)) (counted-none (channelAt b i)) (put-counted 0 c p)
 
   on-channel : (events : List ℕ) (outcome : Outcome) → After 0 outcome → After 0 (onChannel b i events outcome)
-  on-channel events outcome = pick-holds (After 0) (ltb 2 i) (refuse 2 b events) outcome (counted-none (channelAt b i))
+  on-channel events outcome p = by-channel (After 0) b i events outcome (counted-none (channelAt b i)) (λ on. p)
 
   write-passes : (port : Port) (byte : ℕ) (events : List ℕ) (place : ℕ) → MayWrite i port byte → After 0 (writeTo b port byte events place)
   write-passes (Data n) byte events place may =
@@ -98,7 +92,7 @@ module _ (b : Board) (three : length (b .channels) ≡ 3) (i : ℕ) (on : i < 3)
       by-same i n (After 0 (isDirty b n))
       (λ same.
       subst (λ (m : ℕ). After 0 (isDirty b m)) (sym same)
-      (on-channel [] _ (put-counted 0 _ (record { same-control = refl; stepped = refl; same-half = refl; same-latched = refl; still-held = λ held. refl }))))
+      (on-channel [] _ (put-counted 0 _ (counted-kept (kept-dirty (channelAt b i) false)))))
       (λ other. leaves (IsDirty n) other)
 
   -- the counts of an accepted call are all made
@@ -111,8 +105,7 @@ module _ (b : Board) (three : length (b .channels) ≡ 3) (i : ℕ) (on : i < 3)
   counts-here : (number : ℕ) (value : Value) → counts b i number .reply ≡ accepted value → After number (counts b i number)
   unfolding counts
   counts-here number value took =
-      let h : i ≤ 2 = omega arith in
-      rw (le-ltb 2 i h) (counts-made number (ltb 65536 number) value (rw (le-ltb 2 i h) at took))
+      rw (not-above i on) (counts-made number (ltb 65536 number) value (rw (not-above i on) at took))
 
   counts-passes : (n number : ℕ) (same : Bool) → eqb n i ≡ same → (value : Value) → counts b n number .reply ≡ accepted value
       → After (cond same number 0) (counts b n number)

@@ -5,7 +5,6 @@ use mathlib.Core.List.{[], _∷_, _++_}
 use mathlib.Core.Path.{_≡_, refl, sym, ap, subst, _∙_}
 use lib.ListN.{length}
 use Rattle.refusal.specs.Reply.{accepted}
-use Rattle.channel.specs.declared.ControlWord.{ControlWord}
 use Rattle.channel.specs.declared.ReadState.the-variants.{NoRead, ReadLsb}
 use Rattle.control.specs.declared.Command.the-variants.{LatchCount}
 use Rattle.latch.specs.Latching.{latchCount}
@@ -22,7 +21,8 @@ use Rattle.reading.specs.Spelling.{remaining, Spells}
 use Rattle.reading.proofs.Counted.{Counted}
 use Rattle.reading.proofs.Passing.{all-pass}
 use Rattle.reading.proofs.Listed.{steps-then, accepted-first, accepted-then}
-use Rattle.reading.proofs.Holds.{Holds, latch-holds, counted-holds, first-byte, first-holds, second-byte, second-control, second-ends, second-whole}
+use Rattle.reading.proofs.Holds.{Holds, latch-holds, undisturbed-holds, first-byte, first-holds, second-byte, second-may}
+use Rattle.reading.proofs.After.{begins-after}
 use Rattle.reading.proofs.Turns.{read-reply, read-leaves, command-turn}
 use Rattle.reading.proofs.Stands.{Stands, counted-stands, latch-stands, read-stands}
 use Rattle.reading.proofs.Spelling.{left-below, left-good, left-again}
@@ -39,7 +39,7 @@ module _ {b : Board} {i : ℕ} {bcd : Bool} {v : ℕ} (reading : Reading b i bcd
   b2 = step b1 (latch reading) .board
 
   abbrev b3 : Board
-  b3 = steps b2 (reading .held)
+  b3 = steps b2 (reading .after)
 
   abbrev b4 : Board
   b4 = step b3 (readOf i) .board
@@ -47,66 +47,56 @@ module _ {b : Board} {i : ℕ} {bcd : Bool} {v : ℕ} (reading : Reading b i bcd
   abbrev b5 : Board
   b5 = steps b4 (reading .between)
 
-  three1 : length (b1 .channels) ≡ 3
-  three1 = steps-three b (reading .begins .three-channels) (reading .before)
+  at-first : atFirst reading ≡ b3
+  at-first = steps-then b (reading .before) (latch reading ∷ reading .after)
+
+  at-second : atSecond reading ≡ b5
+  at-second =
+      steps-then b (reading .before ++ latch reading ∷ reading .after) (readOf i ∷ reading .between)
+      ∙ ap (λ (d : Board). steps d (readOf i ∷ reading .between)) at-first
+
+  -- each call is accepted when its turn comes
+  up-to-second : AllAccepted b (reading .before ++ latch reading ∷ reading .after ++ readOf i ∷ reading .between)
+  up-to-second = accepted-first b (reading .before ++ latch reading ∷ reading .after ++ readOf i ∷ reading .between) (readOf i ∷ []) (reading .all-accepted)
+
+  up-to-first : AllAccepted b (reading .before ++ latch reading ∷ reading .after)
+  up-to-first = accepted-first b (reading .before ++ latch reading ∷ reading .after) (readOf i ∷ reading .between) up-to-second
+
+  from-latch : AllAccepted b1 (latch reading ∷ reading .after)
+  from-latch = accepted-then b (reading .before) (latch reading ∷ reading .after) up-to-first
+
+  from-first : AllAccepted b3 (readOf i ∷ reading .between)
+  from-first = rw at-first at (accepted-then b (reading .before ++ latch reading ∷ reading .after) (readOf i ∷ reading .between) up-to-second)
+
+  -- n counts up to the latch
+  begins1 : Begins b1 i bcd (remaining bcd v (countsMade reading))
+  begins1 =
+      begins-after b i bcd v (reading .begins) (reading .before) (reading .before-may)
+      (accepted-first b (reading .before) (latch reading ∷ reading .after) up-to-first)
 
   three2 : length (b2 .channels) ≡ 3
-  three2 = step-three b1 three1 (latch reading)
+  three2 = step-three b1 (begins1 .three-channels) (latch reading)
 
   three3 : length (b3 .channels) ≡ 3
-  three3 = steps-three b2 three2 (reading .held)
+  three3 = steps-three b2 three2 (reading .after)
 
   three4 : length (b4 .channels) ≡ 3
   three4 = step-three b3 three3 (readOf i)
 
-  at-first : atFirst reading ≡ b3
-  at-first = steps-then b (reading .before) (latch reading ∷ reading .held)
-
-  at-second : atSecond reading ≡ b5
-  at-second =
-      steps-then b (reading .before ++ latch reading ∷ reading .held) (readOf i ∷ reading .between)
-      ∙ ap (λ (d : Board). steps d (readOf i ∷ reading .between)) at-first
-
-  -- each call is accepted when its turn comes
-  up-to-second : AllAccepted b (reading .before ++ latch reading ∷ reading .held ++ readOf i ∷ reading .between)
-  up-to-second = accepted-first b (reading .before ++ latch reading ∷ reading .held ++ readOf i ∷ reading .between) (readOf i ∷ []) (reading .all-accepted)
-
-  up-to-first : AllAccepted b (reading .before ++ latch reading ∷ reading .held)
-  up-to-first = accepted-first b (reading .before ++ latch reading ∷ reading .held) (readOf i ∷ reading .between) up-to-second
-
-  from-latch : AllAccepted b1 (latch reading ∷ reading .held)
-  from-latch = accepted-then b (reading .before) (latch reading ∷ reading .held) up-to-first
-
-  from-first : AllAccepted b3 (readOf i ∷ reading .between)
-  from-first = rw at-first at (accepted-then b (reading .before ++ latch reading ∷ reading .held) (readOf i ∷ reading .between) up-to-second)
-
-  -- n counts up to the latch
-  counted : Counted (countsMade reading) (channelAt b i) (channelAt b1 i)
-  counted =
-      all-pass b (reading .begins .three-channels) i on (reading .before) (reading .before-may) (accepted-first b (reading .before) (latch reading ∷ reading .held) up-to-first)
-
-  stands1 : Stands bcd (remaining bcd v (countsMade reading)) (channelAt b1 i)
-  stands1 =
-      counted-stands (countsMade reading) (reading .begins .sixteen-bits) (reading .begins .four-digits) counted
-      (record { in-radix = reading .begins .radix; at = reading .begins .element })
-
   latched2 : channelAt b2 i ≡ latchCount (channelAt b1 i)
   latched2 =
-      command-turn b1 three1 i on (reading .latchByte) (reading .events) (reading .place) (LatchCount i) (latchCount (channelAt b1 i)) (reading .latches) refl
+      command-turn b1 (begins1 .three-channels) i on (reading .latchByte) (reading .latchEvents) (reading .latchPlace) (LatchCount i) (latchCount (channelAt b1 i)) (reading .latches) refl
       (from-latch .0)
 
   -- from the latch to the first read, and on to the second, the record holds what was left
   holds2 : Holds (remaining bcd v (countsMade reading)) NoRead (channelAt b2 i)
-  holds2 =
-      rw (latched2, ← stands1 .at)
-      (latch-holds (channelAt b1 i) (ap (λ (w : ControlWord). w .«rw_mode») (counted .same-control) ∙ reading .begins .low-then-high)
-      (counted .same-half ∙ reading .begins .no-half-read))
+  holds2 = rw (latched2, ← begins1 .element) (latch-holds (channelAt b1 i) (begins1 .may))
 
-  passed3 : Counted (countsOn i (reading .held)) (channelAt b2 i) (channelAt b3 i)
-  passed3 = all-pass b2 three2 i on (reading .held) (reading .held-may) (from-latch .1)
+  passed3 : Counted (countsOn i (reading .after)) (channelAt b2 i) (channelAt b3 i)
+  passed3 = all-pass b2 three2 i on (reading .after) (reading .after-may) (from-latch .1)
 
   holds3 : Holds (remaining bcd v (countsMade reading)) NoRead (channelAt b3 i)
-  holds3 = counted-holds (countsOn i (reading .held)) passed3 holds2
+  holds3 = undisturbed-holds (passed3 .undisturbed) holds2
 
   holds4 : Holds (remaining bcd v (countsMade reading)) ReadLsb (channelAt b4 i)
   holds4 = rw (read-leaves b3 three3 i on) (first-holds (channelAt b3 i) _ holds3)
@@ -115,7 +105,7 @@ module _ {b : Board} {i : ℕ} {bcd : Bool} {v : ℕ} (reading : Reading b i bcd
   passed5 = all-pass b4 three4 i on (reading .between) (reading .between-may) (from-first .1)
 
   holds5 : Holds (remaining bcd v (countsMade reading)) ReadLsb (channelAt b5 i)
-  holds5 = counted-holds (countsOn i (reading .between)) passed5 holds4
+  holds5 = undisturbed-holds (passed5 .undisturbed) holds4
 
   pub spells : Spells (remaining bcd v (countsMade reading)) (firstReply reading) (secondReply reading)
   spells = (
@@ -128,18 +118,18 @@ module _ {b : Board} {i : ℕ} {bcd : Bool} {v : ℕ} (reading : Reading b i bcd
   )
 
   -- the count goes on under the latch and the reads
-  stands3 : Stands bcd (remaining bcd v (countsOn i (reading .before) + countsOn i (reading .held))) (channelAt b3 i)
+  stands3 : Stands bcd (remaining bcd v (countsOn i (reading .before) + countsOn i (reading .after))) (channelAt b3 i)
   stands3 =
-      rw (← left-again bcd v (countsMade reading) (countsOn i (reading .held)))
-      (counted-stands (countsOn i (reading .held)) (left-below bcd v (countsMade reading)) (left-good bcd v (countsMade reading)) passed3
-      (rw latched2 (latch-stands stands1)))
+      rw (← left-again bcd v (countsMade reading) (countsOn i (reading .after)))
+      (counted-stands (countsOn i (reading .after)) (left-below bcd v (countsMade reading)) (left-good bcd v (countsMade reading)) passed3
+      (rw latched2 (latch-stands (record { in-radix = begins1 .radix; at = begins1 .element }))))
 
   stands5 : Stands bcd (remaining bcd v (countsInAll reading)) (channelAt b5 i)
   stands5 =
-      rw (← left-again bcd v (countsOn i (reading .before) + countsOn i (reading .held)) (countsOn i (reading .between)))
-      (counted-stands (countsOn i (reading .between)) (left-below bcd v (countsOn i (reading .before) + countsOn i (reading .held)))
-      (left-good bcd v (countsOn i (reading .before) + countsOn i (reading .held))) passed5
-      (rw (read-leaves b3 three3 i on) (read-stands stands3)))
+      rw (← left-again bcd v (countsOn i (reading .before) + countsOn i (reading .after)) (countsOn i (reading .between)))
+      (counted-stands (countsOn i (reading .between)) (left-below bcd v (countsOn i (reading .before) + countsOn i (reading .after)))
+      (left-good bcd v (countsOn i (reading .before) + countsOn i (reading .after))) passed5
+      (rw (read-leaves b3 three3 i on) (read-stands (channelAt b3 i) stands3)))
 
   three5 : length (b5 .channels) ≡ 3
   three5 = steps-three b4 three4 (reading .between)
@@ -150,11 +140,9 @@ module _ {b : Board} {i : ℕ} {bcd : Bool} {v : ℕ} (reading : Reading b i bcd
       let left : channelAt (step b5 (readOf i) .board) i ≡ readByte (channelAt b5 i) .channel = read-leaves b5 three5 i on in
       record {
         on-board = on;
-        low-then-high = rw left (second-control (channelAt b5 i) (holds5 .access));
-        not-latched = rw left (second-ends (channelAt b5 i) (holds5 .half-read));
-        no-half-read = rw left (second-whole (channelAt b5 i) (holds5 .half-read));
-        radix = rw left (read-stands stands5 .in-radix);
-        element = rw left (read-stands stands5 .at);
+        may = rw left (second-may (channelAt b5 i) _ holds5);
+        radix = rw left (read-stands (channelAt b5 i) stands5 .in-radix);
+        element = rw left (read-stands (channelAt b5 i) stands5 .at);
         four-digits = left-good bcd v (countsInAll reading);
         three-channels = step-three b5 three5 (readOf i);
         sixteen-bits = left-below bcd v (countsInAll reading);

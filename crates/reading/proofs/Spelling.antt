@@ -18,6 +18,9 @@ pub steps-left : (bcd : Bool) (n v : ℕ) → v < 65536 → (bcd ≡ true → Go
 steps-left false n v h good = binary-times n v h
 steps-left true n v h good = decimal-times n v h (good refl)
 
+pub left-none : (bcd : Bool) (v : ℕ) → v < 65536 → (bcd ≡ true → GoodDigits v) → remaining bcd v 0 ≡ v
+left-none bcd v h good = sym (steps-left bcd 0 v h good)
+
 -- what is left is a count in the same radix, and from it k more counts leave what n + k leave
 pub left-below : (bcd : Bool) (v n : ℕ) → remaining bcd v n < 65536
 left-below false v n = below 65536 v n (omega arith)

@@ -5,8 +5,10 @@ use mathlib.Core.Path.{_≡_, ap, _∙_}
 use Rattle.numbers.specs.Digits.{GoodDigits}
 use Rattle.channel.specs.declared.Channel.{Channel}
 use Rattle.channel.specs.declared.ControlWord.{ControlWord}
+use Rattle.channel.specs.declared.Counter.{Counter}
 use Rattle.latch.specs.Latching.{latchCount}
 use Rattle.latch.specs.Reading.{readByte}
+use Rattle.latch.proofs.Words.{read-control, read-counter}
 use Rattle.reading.specs.Spelling.{remaining}
 use Rattle.reading.proofs.Counted.{Counted}
 use Rattle.reading.proofs.Spelling.{steps-left}
@@ -19,7 +21,7 @@ pub counted-stands : (k : ℕ) {c d : Channel} {bcd : Bool} {e : ℕ} → e < 65
     → Stands bcd (remaining bcd e k) d
 counted-stands k {c} {d} {bcd} {e} h good p s =
     record {
-      in-radix = ap (λ (w : ControlWord). w .«bcd_mode») (p .same-control) ∙ s .in-radix;
+      in-radix = ap (λ (w : ControlWord). w .«bcd_mode») (p .undisturbed .same-control) ∙ s .in-radix;
       at = p .stepped ∙ rw (s .in-radix, s .at) (steps-left bcd k e h good);
     }
 
@@ -27,6 +29,9 @@ pub latch-stands : {c : Channel} {bcd : Bool} {e : ℕ} → Stands bcd e c → S
 unfolding latchCount
 latch-stands s = record { in-radix = s .in-radix; at = s .at }
 
-pub read-stands : {c : Channel} {bcd : Bool} {e : ℕ} → Stands bcd e c → Stands bcd e (readByte c .channel)
-unfolding readByte
-read-stands s = record { in-radix = s .in-radix; at = s .at }
+pub read-stands : (c : Channel) {bcd : Bool} {e : ℕ} → Stands bcd e c → Stands bcd e (readByte c .channel)
+read-stands c s =
+    record {
+      in-radix = ap (λ (w : ControlWord). w .«bcd_mode») (read-control c) ∙ s .in-radix;
+      at = ap (λ (k : Counter). k .«counting_element») (read-counter c) ∙ s .at;
+    }

@@ -1,15 +1,12 @@
 -- Latch and two reads of a channel, as calls of the board and on its record: where a reading may begin, the bytes make up the counting element. Assumes nothing.
 use Prim.Native.Nat.{ℕ, zero, suc, _*_, _<_}
-use mathlib.Core.Bool.{Bool, true, false, cond, false≢true}
+use mathlib.Core.Bool.{Bool, true, false}
 use mathlib.Core.List.{[]}
 use mathlib.Core.Path.{_≡_, refl, ap, _∙_}
 use native.Mathlib.Omega.{arith}
 use lib.ListN.{length}
 use Rattle.channel.specs.declared.Channel.{Channel}
-use Rattle.channel.specs.declared.RwMode.{RwMode}
-use Rattle.channel.specs.declared.RwMode.the-variants.{Lsb, Msb, LsbMsb}
-use Rattle.channel.specs.declared.ReadState.{ReadState}
-use Rattle.channel.specs.declared.ReadState.the-variants.{NoRead, ReadLsb}
+use Rattle.channel.specs.declared.ReadState.the-variants.{NoRead}
 use Rattle.control.specs.declared.Command.{Command}
 use Rattle.control.specs.declared.Command.the-variants.{LatchCount}
 use Rattle.control.specs.Control.{commandOf}
@@ -20,48 +17,21 @@ use Rattle.event.specs.Event.{eventOf, placeEvent}
 use Rattle.board.specs.declared.Board.{Board}
 use Rattle.board.specs.Board.{channelAt, withChannel}
 use Rattle.board.proofs.Channels.{put-found, put-again}
-use Rattle.board.specs.Outcome.{Outcome}
+use Rattle.board.specs.Outcome.{Outcome, newPlace}
+use Rattle.refusal.specs.Reply.{accepted}
 use Rattle.ports.specs.Port.{portOf}
 use Rattle.ports.specs.Settle.{settle}
 use Rattle.ports.specs.Writes.{controlRegisterWrite, writePort}
 use Rattle.step.specs.Step.{step, steps}
 use Rattle.reading.specs.Reading.{readOf, latchOf, threeCalls}
 use Rattle.reading.specs.Word.{readWord}
-use Rattle.reading.specs.ReadCount.{startsWord, mayBegin}
+use Rattle.reading.specs.Beginning.{mayBegin}
 use Rattle.reading.proofs.Holds.{Holds, latch-holds, first-byte, first-holds, second-byte}
 use Rattle.reading.proofs.Turns.{read-turn}
 
-starts-access : (a : RwMode) (s : ReadState) → startsWord a s ≡ true → a ≡ LsbMsb
-starts-access Lsb s e = absurd (false≢true e)
-starts-access Msb s e = absurd (false≢true e)
-starts-access LsbMsb s e = refl
-
-starts-whole : (a : RwMode) (s : ReadState) → startsWord a s ≡ true → s ≡ NoRead
-starts-whole Lsb s e = absurd (false≢true e)
-starts-whole Msb s e = absurd (false≢true e)
-starts-whole LsbMsb NoRead e = refl
-starts-whole LsbMsb ReadLsb e = absurd (false≢true e)
-
-starts-unless : (latched starts : Bool) → cond latched false starts ≡ true → (latched ≡ false) × (starts ≡ true)
-starts-unless true starts e = absurd (false≢true e)
-starts-unless false starts e = (refl, e)
-
--- what the test for a beginning says
 module _ (c : Channel) (may : mayBegin c ≡ true) where
-  begins : (c .latch .«count_is_latched» ≡ false) × (startsWord (c .control .«rw_mode») (c .latch .«read_state») ≡ true)
-  begins = starts-unless (c .latch .«count_is_latched») (startsWord (c .control .«rw_mode») (c .latch .«read_state»)) may
-
-  pub begin-free : c .latch .«count_is_latched» ≡ false
-  begin-free = begins .0
-
-  pub begin-access : c .control .«rw_mode» ≡ LsbMsb
-  begin-access = starts-access (c .control .«rw_mode») (c .latch .«read_state») (begins .1)
-
-  pub begin-whole : c .latch .«read_state» ≡ NoRead
-  begin-whole = starts-whole (c .control .«rw_mode») (c .latch .«read_state») (begins .1)
-
   held : Holds (c .counter .«counting_element») NoRead (latchCount c)
-  held = latch-holds c begin-access begin-whole
+  held = latch-holds c may
 
   -- the two bytes make up the counting element
   pub word-is-element : readWord c .word ≡ c .counter .«counting_element»
@@ -69,7 +39,7 @@ module _ (c : Channel) (may : mayBegin c ≡ true) where
   word-is-element =
       rw (first-byte (latchCount c) _ held, second-byte (readByte (latchCount c) .channel) _ (first-holds (latchCount c) _ held)) (omega arith)
 
-latch-byte : (n : ℕ) → n < 3 → commandOf (n * 64) ≡ LatchCount n
+pub latch-byte : (n : ℕ) → n < 3 → commandOf (n * 64) ≡ LatchCount n
 unfolding commandOf
 latch-byte zero on = refl
 latch-byte (suc zero) on = refl
@@ -80,15 +50,26 @@ no-event : (n : ℕ) (level : Bool) → eventOf n level level ≡ Unchanged
 no-event n true = refl
 no-event n false = refl
 
-latch-left : (b : Board) (n : ℕ) → settle b n (latchCount (channelAt b n)) [] 0 .board ≡ withChannel b n (latchCount (channelAt b n))
+-- a latch of the channel's own, as the board's call
+abbrev latched : Board → ℕ → Outcome
+latched b n = record { reply = accepted (newPlace 0); board = withChannel b n (latchCount (channelAt b n)); events = [] }
+
+latch-settled : (b : Board) (n : ℕ) → settle b n (latchCount (channelAt b n)) [] 0 ≡ latched b n
 unfolding settle placeEvent latchCount
-latch-left b n = simp (no-event n (channelAt b n .pins .output))
+latch-settled b n = simp (no-event n (channelAt b n .pins .output))
+
+module _ (b : Board) (n : ℕ) (on : n < 3) where
+  latch-outcome : step b (latchOf n) ≡ latched b n
+  unfolding writePort portOf
+  latch-outcome = ap (λ (command : Command). controlRegisterWrite b command [] 0) (latch-byte n on) ∙ latch-settled b n
+
+  pub latch-taken : step b (latchOf n) .reply ≡ accepted (newPlace 0)
+  latch-taken = ap (λ (o : Outcome). o .reply) latch-outcome
+
+  latch-put : step b (latchOf n) .board ≡ withChannel b n (latchCount (channelAt b n))
+  latch-put = ap (λ (o : Outcome). o .board) latch-outcome
 
 module _ (b : Board) (three : length (b .channels) ≡ 3) (n : ℕ) (on : n < 3) where
-  latch-put : step b (latchOf n) .board ≡ withChannel b n (latchCount (channelAt b n))
-  unfolding writePort portOf
-  latch-put = ap (λ (command : Command). controlRegisterWrite b command [] 0 .board) (latch-byte n on) ∙ latch-left b n
-
   -- a read of a board that has just been given a record
   read-put : (c : Channel) → step (withChannel b n c) (readOf n) .board ≡ withChannel b n (readByte c .channel)
   read-put c =
@@ -99,6 +80,6 @@ module _ (b : Board) (three : length (b .channels) ≡ 3) (n : ℕ) (on : n < 3)
   pub three-calls : steps b (threeCalls n) ≡ withChannel b n (readWord (channelAt b n) .channel)
   unfolding readWord
   three-calls =
-      ap (λ (d : Board). step (step d (readOf n) .board) (readOf n) .board) latch-put
+      ap (λ (d : Board). step (step d (readOf n) .board) (readOf n) .board) (latch-put b n on)
       ∙ ap (λ (d : Board). step d (readOf n) .board) (read-put (latchCount (channelAt b n)))
       ∙ read-put (readByte (latchCount (channelAt b n)) .channel)

@@ -1,47 +1,36 @@
 -- The turns of a reading that are its own, on the board: a command of the channel, and the two reads. Assumes nothing.
 use Prim.Native.Nat.{ℕ, _-_, _<_}
 use mathlib.Core.List.{List}
-use mathlib.Core.Path.{_≡_, refl, sym, ap, _∙_}
+use mathlib.Core.Path.{_≡_, sym, ap, _∙_}
 use lib.ListN.{length}
-use Rattle.refusal.specs.Reply.{Reply, refused, accepted}
+use Rattle.refusal.specs.Reply.{accepted}
 use Rattle.channel.specs.declared.Channel.{Channel}
 use Rattle.control.specs.declared.Command.{Command}
 use Rattle.control.specs.Control.{commandOf}
 use Rattle.latch.specs.Reading.{readByte}
-use Rattle.event.specs.Event.{placeEvent}
 use Rattle.board.specs.declared.Board.{Board}
-use Rattle.board.specs.Board.{channelAt, withChannel}
+use Rattle.board.specs.Board.{channelAt}
 use Rattle.board.proofs.Channels.{put-found}
 use Rattle.board.specs.Outcome.{Outcome, Value, byte}
 use Rattle.ports.specs.Port.{portOf}
 use Rattle.ports.proofs.Below.{data-port}
-use Rattle.ports.specs.Settle.{callReply, boardAfter, levelEvent, settle}
+use Rattle.ports.specs.Settle.{settle}
+use Rattle.ports.proofs.Settled.{settle-taken}
 use Rattle.ports.specs.Reads.{dataRead, readFrom, readPort}
 use Rattle.ports.specs.Writes.{controlRegisterWrite, writePort}
 use Rattle.step.specs.Step.{step}
-use Rattle.refusal.proofs.Apart.{refused-not}
 use Rattle.reading.specs.Reading.{readOf, controlWrite}
 
 pub read-turn : (b : Board) (i : ℕ) → i < 3 → step b (readOf i) ≡ dataRead b i
 unfolding readPort
 read-turn b i on = ap (readFrom b) (data-port i on)
 
--- the byte is the record's own, and so is what is left in its place
+-- the byte is the record's own
 pub read-reply : (b : Board) (i : ℕ) → i < 3 → step b (readOf i) .reply ≡ accepted (byte (readByte (channelAt b i) .byte))
 read-reply b i on = ap (λ (o : Outcome). o .reply) (read-turn b i on)
 
--- what an accepted call left is its new board
-taken-board : (reply : Reply ℕ) (old new : Board) (value : Value) → callReply reply ≡ accepted value → boardAfter reply old new ≡ new
-taken-board (refused number) old new value took = absurd (refused-not number value took)
-taken-board (accepted place) old new value took = refl
-
-settled-board : (b : Board) (n : ℕ) (c : Channel) (events : List ℕ) (place : ℕ) (value : Value) → settle b n c events place .reply ≡ accepted value
-    → settle b n c events place .board ≡ withChannel b n c
-unfolding settle
-settled-board b n c events place value took =
-    taken-board (placeEvent (levelEvent n (channelAt b n) c) events place .reply) b (withChannel b n c) value took
-
 module _ (b : Board) (three : length (b .channels) ≡ 3) (i : ℕ) (on : i < 3) where
+  -- and so is what is left in its place
   pub read-leaves : channelAt (step b (readOf i) .board) i ≡ readByte (channelAt b i) .channel
   read-leaves = ap (λ (o : Outcome). channelAt (o .board) i) (read-turn b i on) ∙ put-found b three i on _
 
@@ -49,7 +38,7 @@ module _ (b : Board) (three : length (b .channels) ≡ 3) (i : ℕ) (on : i < 3)
   settled-found : (c : Channel) (events : List ℕ) (place : ℕ) (value : Value) → settle b i c events place .reply ≡ accepted value
       → channelAt (settle b i c events place .board) i ≡ c
   settled-found c events place value took =
-      ap (λ (d : Board). channelAt d i) (settled-board b i c events place value took) ∙ put-found b three i on c
+      ap (λ (d : Board). channelAt d i) (settle-taken b events place i c value took) ∙ put-found b three i on c
 
   -- a control byte that is a command, where that command leaves a record
   pub command-turn : (x : ℕ) (events : List ℕ) (place : ℕ) (command : Command) (c : Channel) → commandOf x ≡ command

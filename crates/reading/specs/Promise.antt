@@ -9,12 +9,12 @@ use Rattle.board.specs.declared.Board.{Board}
 use Rattle.board.specs.Board.{channelAt}
 use Rattle.step.specs.Operation.{Operation}
 use Rattle.step.specs.Step.{steps}
-use Rattle.reading.specs.Beginning.{Begins}
+use Rattle.reading.specs.Beginning.{mayBegin, Begins}
 use Rattle.reading.specs.Passing.{AllMayPass}
 use Rattle.reading.specs.Counts.{countsOn}
 use Rattle.reading.specs.Reading.{AllAccepted, threeCalls, Reading, countsMade, countsInAll, atEnd, firstReply, secondReply}
 use Rattle.reading.specs.Spelling.{modulus, remaining, Spells}
-use Rattle.reading.specs.ReadCount.{mayBegin, readCount}
+use Rattle.reading.specs.ReadCount.{readCount}
 
 -- "The bytes spell (v - n) mod 65,536, or in BCD, v read as decimal, the digits of (v - n) mod 10,000."
 abbrev pub ReadsTheCount : Type 0
@@ -48,3 +48,7 @@ CountsThenReads =
 abbrev pub AsThreeCalls : Type 0
 AsThreeCalls =
     (b : Board) (i : ℕ) → i < 3 → length (b .channels) ≡ 3 → mayBegin (channelAt b i) ≡ true → readCount b i .board ≡ steps b (threeCalls i)
+
+-- .. so that the next reading may begin from the same count
+abbrev pub ReadsAndBegins : Type 0
+ReadsAndBegins = (b : Board) (i : ℕ) (bcd : Bool) (v : ℕ) → Begins b i bcd v → Begins (readCount b i .board) i bcd v

@@ -1,19 +1,15 @@
 -- The count of a channel in one call: latched, and read low byte then high, where demand 3's reading may begin.
 use Prim.Native.Nat.{ℕ}
-use mathlib.Core.Bool.{Bool, true, false, cond}
+use mathlib.Core.Bool.{cond}
 use lib.Dec.{ltb}
 use Rattle.refusal.specs.Reply.{Reply, refused, accepted}
 use Rattle.refusal.specs.Refusal.{refusalNumber}
-use Rattle.channel.specs.declared.Channel.{Channel}
-use Rattle.channel.specs.declared.RwMode.{RwMode}
-use Rattle.channel.specs.declared.RwMode.the-variants.{Lsb, Msb, LsbMsb}
-use Rattle.channel.specs.declared.ReadState.{ReadState}
-use Rattle.channel.specs.declared.ReadState.the-variants.{NoRead, ReadLsb}
 use Rattle.board.specs.declared.Board.{Board}
 use Rattle.board.specs.Board.{channelAt, withChannel}
 use Rattle.reading.specs.declared.CountAnswer.{CountAnswer}
 use Rattle.reading.specs.declared.CountAnswer.the-variants.{Refused, NotReadable, Count}
 use Rattle.reading.specs.declared.CountAnswered.{CountAnswered}
+use Rattle.reading.specs.Beginning.{mayBegin}
 use Rattle.reading.specs.Word.{readWord}
 
 -- the reply, and the board handed back
@@ -27,24 +23,8 @@ countReply (Refused refusal) = refused (refusalNumber refusal)
 countReply NotReadable = refused 201
 countReply (Count e) = accepted e
 
--- the number of a refusal, 0 where there is none
-abbrev pub numberIn : Reply ℕ → ℕ
-numberIn (refused number) = number
-numberIn (accepted e) = 0
-
 abbrev pub countOutcome : CountAnswered → CountOutcome
 countOutcome r = record { reply = countReply (r .answer); board = r .board }
-
--- "read low byte then high", "no word half read": the next read gives a word's low byte
-abbrev pub startsWord : RwMode → ReadState → Bool
-startsWord Lsb s = false
-startsWord Msb s = false
-startsWord LsbMsb NoRead = true
-startsWord LsbMsb ReadLsb = false
-
--- "A channel read low byte then high, not latched, no word half read"
-abbrev pub mayBegin : Channel → Bool
-mayBegin c = cond (c .latch .«count_is_latched») false (startsWord (c .control .«rw_mode») (c .latch .«read_state»))
 
 -- the counting element, and the channel as a latch and the reads of both bytes leave it
 abbrev pub countTaken : Board → ℕ → CountOutcome

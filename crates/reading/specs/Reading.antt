@@ -41,19 +41,19 @@ pub record Reading (b : Board) (i : ℕ) (bcd : Bool) (v : ℕ) : Type 0 where
   pub begins : Begins b i bcd v
   pub before : List Operation
   pub latchByte : ℕ
-  pub events : List ℕ
-  pub place : ℕ
-  pub held : List Operation
+  pub latchEvents : List ℕ
+  pub latchPlace : ℕ
+  pub after : List Operation
   pub between : List Operation
   pub before-may : AllMayPass i before
   pub latches : commandOf latchByte ≡ LatchCount i
-  pub held-may : AllMayPass i held
+  pub after-may : AllMayPass i after
   pub between-may : AllMayPass i between
-  pub all-accepted : AllAccepted b (before ++ controlWrite latchByte events place ∷ held ++ readOf i ∷ between ++ readOf i ∷ [])
+  pub all-accepted : AllAccepted b (before ++ controlWrite latchByte latchEvents latchPlace ∷ after ++ readOf i ∷ between ++ readOf i ∷ [])
 
 module _ {b : Board} {i : ℕ} {bcd : Bool} {v : ℕ} (reading : Reading b i bcd v) where
   abbrev pub latch : Operation
-  latch = controlWrite (reading .latchByte) (reading .events) (reading .place)
+  latch = controlWrite (reading .latchByte) (reading .latchEvents) (reading .latchPlace)
 
   -- n
   abbrev pub countsMade : ℕ
@@ -61,14 +61,14 @@ module _ {b : Board} {i : ℕ} {bcd : Bool} {v : ℕ} (reading : Reading b i bcd
 
   -- all counts that were made on the channel, those after the latch too
   abbrev pub countsInAll : ℕ
-  countsInAll = countsOn i (reading .before) + countsOn i (reading .held) + countsOn i (reading .between)
+  countsInAll = countsOn i (reading .before) + countsOn i (reading .after) + countsOn i (reading .between)
 
   -- the board when the turn of the first read comes, and of the second
   abbrev pub atFirst : Board
-  atFirst = steps b (reading .before ++ latch ∷ reading .held)
+  atFirst = steps b (reading .before ++ latch ∷ reading .after)
 
   abbrev pub atSecond : Board
-  atSecond = steps b (reading .before ++ latch ∷ reading .held ++ readOf i ∷ reading .between)
+  atSecond = steps b (reading .before ++ latch ∷ reading .after ++ readOf i ∷ reading .between)
 
   -- the board after the second read
   abbrev pub atEnd : Board

@@ -6,8 +6,10 @@ use channel::ReadState;
 use channel::RwMode;
 use refusal::Refusal;
 ghost use mathlib.Core.Path.{_≡_};
+ghost use Rattle.refusal.specs.Reply.{numberIn};
+ghost use Rattle.reading.specs.Beginning.{startsWord, mayBegin};
 ghost use Rattle.reading.specs.Word.{readWord};
-ghost use Rattle.reading.specs.ReadCount.{countReply, numberIn, countOutcome, startsWord, mayBegin, readCount};
+ghost use Rattle.reading.specs.ReadCount.{countReply, countOutcome, readCount};
 
 pub enum CountAnswer {
     Refused(Refusal),

@@ -4,7 +4,8 @@ use mathlib.Core.Path.{_≡_, sym, _∙_}
 use borrow.Author.Needs.{needs}
 use borrow.Author.Tests.{lt-ltb, le-ltb}
 use Rattle.board.specs.Board.{channelAt}
-use Rattle.reading.specs.ReadCount.{mayBegin, readCount}
+use Rattle.reading.specs.Beginning.{mayBegin}
+use Rattle.reading.specs.ReadCount.{readCount}
 use Rattle.reading.proofs.ThreeCalls.{word-is-element}
 use Rattle.reading.proofs.read_count.Statement.{statement}
 use Rattle.reading.proofs.read_count.Tie as tie
