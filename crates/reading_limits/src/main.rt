@@ -1,4 +1,4 @@
-// What demand 3 does not promise (docs/READING.md): for each exclusion, and for each condition but "not latched", which no list needs today, a smallest list of calls on
+// What demand 3 does not promise (docs/READING.md): for each exclusion, and for each condition but "not latched", which no list needs today, a short list of calls on
 // which the two bytes read are not v - n, beside the same list without the fault, on which they are. Then what `read_count` answers where a reading may begin, and where not.
 use board::Answer;
 use board::Board;
@@ -20,15 +20,16 @@ const BOTH_BYTES: u8 = 0x30;
 
 const BOTH_BYTES_BCD: u8 = 0x31;
 
-// The two bytes read, in their order.
-struct Bytes {
-    first: u8,
-    second: u8,
-}
-
 // A byte read, and the board after it.
 struct Got {
     byte: u8,
+    board: Board,
+}
+
+// The two bytes read, in their order, and the board after them.
+struct Bytes {
+    first: u8,
+    second: u8,
     board: Board,
 }
 
@@ -48,28 +49,22 @@ fn write(b: Board, port: u16, byte: u8) -> Board {
     write_at(b, port, byte, 0)
 }
 
+// A word to the data port, and the load cycle that moves it.
+fn load(b: Board, low: u8, high: u8) -> Board {
+    let r = write(write(b, DATA, low), DATA, high).load_cycle(0);
+    r.board
+}
+
 fn counts(b: Board, number: u32) -> Board {
     let r = b.counts(0, number);
     r.board
 }
 
-fn load_cycle(b: Board) -> Board {
-    let r = b.load_cycle(0);
-    r.board
-}
-
 fn byte_of(answer: Answer) -> u8 {
-    match answer {
-        Answer::Byte(byte) => byte,
-        Answer::Refused(_) => 0,
-        Answer::Done => 0,
-        Answer::Place(_) => 0,
-        Answer::Ticks(_) => 0,
-        Answer::OutputState(_) => 0,
-        Answer::Count(_) => 0,
-        Answer::Retriggers(_) => 0,
-        Answer::Dirty(_, _, _) => 0,
-    }
+    let Answer::Byte(byte) = answer else {
+        return 0;
+    };
+    byte
 }
 
 fn read(b: Board) -> Got {
@@ -84,144 +79,135 @@ fn read(b: Board) -> Got {
 
 fn read_two(b: Board) -> Bytes {
     let low = read(b);
-    let next = low.board;
-    let high = read(next);
+    let half = low.board;
+    let high = read(half);
+    let board = high.board;
     Bytes {
         first: low.byte,
         second: high.byte,
+        board,
     }
+}
+
+fn latch(b: Board) -> Board {
+    write(b, COMMAND, LATCH)
 }
 
 fn latch_and_read(b: Board) -> Bytes {
-    read_two(write(b, COMMAND, LATCH))
-}
-
-fn mode_set(spoiled: bool) -> Bytes {
-    let b = counts(fresh(), 1);
-    if spoiled {
-        return latch_and_read(write(b, COMMAND, BOTH_BYTES));
-    }
-    latch_and_read(b)
-}
-
-fn second_latch(spoiled: bool) -> Bytes {
-    let b = counts(write(fresh(), COMMAND, LATCH), 1);
-    if spoiled {
-        return latch_and_read(b);
-    }
-    read_two(b)
-}
-
-fn load(spoiled: bool) -> Bytes {
-    let b = write(write(fresh(), DATA, 5), DATA, 0);
-    if spoiled {
-        return latch_and_read(load_cycle(b));
-    }
-    latch_and_read(b)
-}
-
-fn extra_read(spoiled: bool) -> Bytes {
-    let b = write(counts(fresh(), 2), COMMAND, LATCH);
-    if spoiled {
-        let extra = read(b);
-        let after = extra.board;
-        return read_two(after);
-    }
-    read_two(b)
-}
-
-fn reset(spoiled: bool) -> Bytes {
-    let b = counts(fresh(), 1);
-    if spoiled {
-        return latch_and_read(b.reset());
-    }
-    latch_and_read(b)
-}
-
-// The count that was latched last is still in the output latch.
-fn stale(spoiled: bool) -> Bytes {
-    let b = counts(write(fresh(), COMMAND, LATCH), 1);
-    let low = read(b);
-    let half = low.board;
-    let high = read(half);
-    let after = high.board;
-    if spoiled {
-        return read_two(after);
-    }
-    latch_and_read(after)
-}
-
-// The count from before a mode set is still in the output latch.
-fn old_mode(spoiled: bool) -> Bytes {
-    let b = write(counts(fresh(), 1), COMMAND, BOTH_BYTES);
-    if spoiled {
-        return read_two(b);
-    }
-    latch_and_read(b)
-}
-
-fn low_byte(spoiled: bool) -> Bytes {
-    if spoiled {
-        return latch_and_read(counts(write(fresh(), COMMAND, LOW_BYTE), 2));
-    }
-    latch_and_read(counts(write(fresh(), COMMAND, BOTH_BYTES), 2))
-}
-
-fn half_read(spoiled: bool) -> Bytes {
-    let b = fresh();
-    if spoiled {
-        let half = read(b);
-        let after = half.board;
-        return latch_and_read(counts(after, 2));
-    }
-    latch_and_read(counts(b, 2))
-}
-
-// 0x00A0 weighs 100, as 0x0100 does.
-fn bad_digit(spoiled: bool) -> Bytes {
-    let b = write(fresh(), COMMAND, BOTH_BYTES_BCD);
-    if spoiled {
-        return latch_and_read(load_cycle(write(write(b, DATA, 0xA0), DATA, 0)));
-    }
-    latch_and_read(load_cycle(write(write(b, DATA, 0), DATA, 1)))
-}
-
-fn too_many(spoiled: bool) -> Bytes {
-    if spoiled {
-        return latch_and_read(counts(fresh(), 65537));
-    }
-    latch_and_read(counts(counts(fresh(), 65536), 1))
-}
-
-fn past_end(spoiled: bool) -> Bytes {
-    if spoiled {
-        return read_two(counts(write_at(fresh(), COMMAND, LATCH, 3), 1));
-    }
-    read_two(counts(write_at(fresh(), COMMAND, LATCH, 0), 1))
+    read_two(latch(b))
 }
 
 fn say(text: &[u8]) {
     io::write_all(STDOUT_FILENO, text);
 }
 
-fn say_bytes(text: &[u8], bytes: Bytes) {
+fn say_bytes(text: &[u8], first: u8, second: u8) {
     say(text);
-    io::print_hex(STDOUT_FILENO, bytes.first as u64, 2);
+    io::print_hex(STDOUT_FILENO, first as u64, 2);
     say(b" ");
-    io::print_hex(STDOUT_FILENO, bytes.second as u64, 2);
+    io::print_hex(STDOUT_FILENO, second as u64, 2);
 }
 
 // The last argument is v - n, of both lists of the case.
 fn case(name: &[u8], with: Bytes, without: Bytes, left: u16) {
     say(name);
-    say_bytes(b": read ", with);
-    let spelled = Bytes {
-        first: (left % 256) as u8,
-        second: (left / 256) as u8,
-    };
-    say_bytes(b", v - n is ", spelled);
-    say_bytes(b", without the fault ", without);
+    say_bytes(b": read ", with.first, with.second);
+    say_bytes(b", v - n is ", (left % 256) as u8, (left / 256) as u8);
+    say_bytes(b", without the fault ", without.first, without.second);
     say(b"\n");
+}
+
+fn exclusions() {
+    let one = counts(fresh(), 1);
+    let set = write(one, COMMAND, BOTH_BYTES);
+    case(
+        b"mode set",
+        latch_and_read(set),
+        latch_and_read(one),
+        0xFFFF,
+    );
+    let held = counts(latch(fresh()), 1);
+    case(b"second latch", latch_and_read(held), read_two(held), 0);
+    let unloaded = write(write(fresh(), DATA, 5), DATA, 0);
+    let loaded = load(fresh(), 5, 0);
+    case(
+        b"load cycle",
+        latch_and_read(loaded),
+        latch_and_read(unloaded),
+        0,
+    );
+    let two = latch(counts(fresh(), 2));
+    let extra = read(two);
+    let rest = extra.board;
+    case(b"extra read", read_two(rest), read_two(two), 0xFFFE);
+    case(
+        b"reset",
+        latch_and_read(one.reset()),
+        latch_and_read(one),
+        0xFFFF,
+    );
+}
+
+// No latch of the reading's own: the output latch still has the count that was latched last, or the one from before a mode set.
+fn unlatched() {
+    let reading = read_two(counts(latch(fresh()), 1));
+    let after = reading.board;
+    case(
+        b"stale after a reading",
+        read_two(after),
+        latch_and_read(after),
+        0xFFFF,
+    );
+    let set = write(counts(fresh(), 1), COMMAND, BOTH_BYTES);
+    case(
+        b"stale after a mode set",
+        read_two(set),
+        latch_and_read(set),
+        0,
+    );
+}
+
+// 0x00A0 weighs 100, as 0x0100 does.
+fn conditions() {
+    let low = counts(write(fresh(), COMMAND, LOW_BYTE), 2);
+    let both = counts(write(fresh(), COMMAND, BOTH_BYTES), 2);
+    case(
+        b"low byte only",
+        latch_and_read(low),
+        latch_and_read(both),
+        0xFFFE,
+    );
+    let first = read(fresh());
+    let half = counts(first.board, 2);
+    case(
+        b"half-read word",
+        latch_and_read(half),
+        latch_and_read(both),
+        0xFFFE,
+    );
+    let bcd = write(fresh(), COMMAND, BOTH_BYTES_BCD);
+    let bad = load(bcd, 0xA0, 0x00);
+    let good = load(bcd, 0x00, 0x01);
+    case(
+        b"digit above 9",
+        latch_and_read(bad),
+        latch_and_read(good),
+        0x0100,
+    );
+}
+
+fn refusals() {
+    let none = counts(fresh(), 65537);
+    let all = counts(counts(fresh(), 65536), 1);
+    case(
+        b"refused counts",
+        latch_and_read(none),
+        latch_and_read(all),
+        0xFFFF,
+    );
+    let moving = counts(write_at(fresh(), COMMAND, LATCH, 3), 1);
+    let held = counts(latch(fresh()), 1);
+    case(b"refused latch", read_two(moving), read_two(held), 0);
 }
 
 fn say_count(name: &[u8], b: Board, channel: usize) {
@@ -229,48 +215,15 @@ fn say_count(name: &[u8], b: Board, channel: usize) {
     say(name);
     let r = reading::read_count(b, channel);
     let answer = r.answer;
-    match answer {
-        CountAnswer::Count(left) => {
-            say(b": ");
-            io::print_hex(STDOUT_FILENO, left as u64, 4);
-        }
-        CountAnswer::Refused(_) => {
-            say(b": refused ");
-            io::print_decimal(STDOUT_FILENO, answer.number() as u64);
-        }
-        CountAnswer::NotReadable => {
-            say(b": refused ");
-            io::print_decimal(STDOUT_FILENO, answer.number() as u64);
-        }
-    }
+    let CountAnswer::Count(left) = answer else {
+        say(b": refused ");
+        io::print_decimal(STDOUT_FILENO, answer.number() as u64);
+        say(b"\n");
+        return;
+    };
+    say(b": ");
+    io::print_hex(STDOUT_FILENO, left as u64, 4);
     say(b"\n");
-}
-
-fn exclusions() {
-    case(b"mode set", mode_set(true), mode_set(false), 0xFFFF);
-    case(b"second latch", second_latch(true), second_latch(false), 0);
-    case(b"load cycle", load(true), load(false), 0);
-    case(b"extra read", extra_read(true), extra_read(false), 0xFFFE);
-    case(b"reset", reset(true), reset(false), 0xFFFF);
-}
-
-// No latch of the reading's own.
-fn unlatched() {
-    case(b"stale after a reading", stale(true), stale(false), 0xFFFF);
-    case(
-        b"stale after a mode set",
-        old_mode(true),
-        old_mode(false),
-        0,
-    );
-}
-
-fn conditions() {
-    case(b"low byte only", low_byte(true), low_byte(false), 0xFFFE);
-    case(b"half-read word", half_read(true), half_read(false), 0xFFFE);
-    case(b"digit above 9", bad_digit(true), bad_digit(false), 0x0100);
-    case(b"refused counts", too_many(true), too_many(false), 0xFFFF);
-    case(b"refused latch", past_end(true), past_end(false), 0);
 }
 
 fn in_one_call() {
@@ -280,15 +233,15 @@ fn in_one_call() {
     say_count(b"in BCD after 1 count", counts(bcd, 1), 0);
     say_count(b"channel 3", fresh(), 3);
     say_count(b"low byte only", write(fresh(), COMMAND, LOW_BYTE), 0);
-    say_count(b"latched", write(fresh(), COMMAND, LATCH), 0);
-    let half = read(fresh());
-    let b = half.board;
-    say_count(b"half-read word", b, 0);
+    say_count(b"latched", latch(fresh()), 0);
+    let first = read(fresh());
+    say_count(b"half-read word", first.board, 0);
 }
 
 fn main() {
     exclusions();
     unlatched();
     conditions();
+    refusals();
     in_one_call();
 }

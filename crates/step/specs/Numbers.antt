@@ -1,4 +1,4 @@
--- Document 01, "Numbers on both sides": "Proved, one statement over all (BCD unless said)". The numbers that it marks as run only are programs'.
+-- Document 01, "Numbers on both sides": "Proved, one statement over all (BCD unless said)". Those marked as run only are shown by programs.
 use mathlib.Core.Bool.{true, false}
 use mathlib.Core.Path.{_≡_}
 use Rattle.refusal.specs.Reply.{accepted}
