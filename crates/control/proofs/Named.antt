@@ -1,5 +1,5 @@
 -- A command names one of the three channels. Assumes nothing.
-use Prim.Native.Nat.{ℕ, _<_}
+use Prim.Native.Nat.{ℕ, zero, suc, _*_, _<_}
 use mathlib.Core.Bool.{Bool, true, false, cond}
 use mathlib.Core.Path.{_≡_, refl, subst}
 use native.Mathlib.Omega.{arith}
@@ -26,3 +26,11 @@ pub named-below : (byte : ℕ) → byte < 256 → (command : Command) → comman
 unfolding commandOf
 named-below byte h command e =
     subst OnBoard e (by-tests byte h (eqb (channelBits byte) 3) (eqb (accessBits byte) 0) refl)
+
+-- the plain latch command of each channel
+pub latch-byte : (n : ℕ) → n < 3 → commandOf (n * 64) ≡ LatchCount n
+unfolding commandOf
+latch-byte zero on = refl
+latch-byte (suc zero) on = refl
+latch-byte (suc (suc zero)) on = refl
+latch-byte (suc (suc (suc n))) on = absurd (omega arith)

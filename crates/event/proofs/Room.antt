@@ -1,4 +1,4 @@
--- What `placeEvent`'s tests come to, for an event that is due and for none. Assumes nothing.
+-- What `placeEvent`'s tests come to, for an event that is due and for none; and when none is. Assumes nothing.
 use Prim.Native.Nat.{ℕ, _+_, _-_, _<_, _≤_}
 use mathlib.Core.Bool.{Bool, true, false, cond}
 use mathlib.Core.List.{List}
@@ -9,7 +9,7 @@ use lib.ListN.{length}
 use borrow.Author.Tests.{ltb-true, ltb-false}
 use Rattle.refusal.specs.Reply.{refused, accepted}
 use Rattle.event.specs.declared.Event.the-variants.{Unchanged, Level}
-use Rattle.event.specs.Event.{Placing, eventAt, placeEvent}
+use Rattle.event.specs.Event.{Placing, eventOf, eventAt, placeEvent}
 
 module _ (events : List ℕ) (place : ℕ) (P : Placing → Type 0) (past : length events < place → P (record { reply = refused 7; bytes = events })) where
   unchanged-by : (over : Bool) → ltb (length events) place ≡ over
@@ -40,3 +40,8 @@ module _ (events : List ℕ) (place : ℕ) (P : Placing → Type 0) (past : leng
       → P (placeEvent (Level n level) events place)
   unfolding placeEvent
   by-level n level few room = level-by n level (ltb (length events) place) (ltb (length events - place) 2) refl refl few room
+
+-- "Setting a level that already stands is no event."
+pub standing-level : (n : ℕ) (level : Bool) → eventOf n level level ≡ Unchanged
+standing-level n true = refl
+standing-level n false = refl

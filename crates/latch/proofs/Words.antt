@@ -16,6 +16,10 @@ pub read-counter : (c : Channel) → readByte c .channel .counter ≡ c .counter
 unfolding readByte
 read-counter c = refl
 
+pub read-pins : (c : Channel) → readByte c .channel .pins ≡ c .pins
+unfolding readByte
+read-pins c = refl
+
 module _ (c : Channel) (access : c .control .«rw_mode» ≡ LsbMsb) (whole : c .latch .«read_state» ≡ NoRead) where
   pub first-byte : readByte c .byte ≡ c .latch .«output_latch» % 256
   unfolding readByte

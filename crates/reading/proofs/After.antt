@@ -6,11 +6,11 @@ use Rattle.board.specs.declared.Board.{Board}
 use Rattle.board.specs.Board.{channelAt}
 use Rattle.step.specs.Operation.{Operation}
 use Rattle.step.specs.Step.{steps}
+use Rattle.step.specs.Accepted.{AllAccepted}
 use Rattle.step.proofs.Three.{steps-three}
 use Rattle.reading.specs.Beginning.{Begins}
 use Rattle.reading.specs.Passing.{AllMayPass}
 use Rattle.reading.specs.Counts.{countsOn}
-use Rattle.reading.specs.Reading.{AllAccepted}
 use Rattle.reading.specs.Spelling.{remaining}
 use Rattle.reading.proofs.Counted.{Counted, undisturbed-may}
 use Rattle.reading.proofs.Spelling.{left-below, left-good}

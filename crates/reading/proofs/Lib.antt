@@ -4,7 +4,6 @@ pub mod Spelling
 pub mod Stands
 pub mod Holds
 pub mod Passing
-pub mod Listed
 pub mod After
 pub mod Turns
 pub mod Reading

@@ -30,13 +30,13 @@ use Rattle.ports.specs.Gates.{setChannelGate}
 use Rattle.ports.specs.Writes.{writeTo, writePort}
 use Rattle.step.specs.Operation.{Operation, WritePort, ReadPort, SetChannelGate, Counts, LoadCycle, CatchUp, Run, Reset, GetOutputState, GetChannelCount, DoesChannelRetrigger, IsDirty, GetTimerAccum}
 use Rattle.step.specs.Step.{step, steps}
+use Rattle.step.specs.Accepted.{AllAccepted}
 use Rattle.step.specs.Touched.{Touches}
 use Rattle.refusal.proofs.Apart.{refused-not}
 use Rattle.step.proofs.Three.{step-three}
 use Rattle.step.proofs.Touched.{write-stays, untouched-stays}
 use Rattle.reading.specs.Passing.{MayWrite, MayPass, AllMayPass}
 use Rattle.reading.specs.Counts.{countsIn, countsOn}
-use Rattle.reading.specs.Reading.{AllAccepted}
 use Rattle.reading.proofs.Counted.{Counted, counted-none, counted-kept, counted-then, counted-counts}
 
 -- channel n is the one that is read, or another

@@ -4,6 +4,7 @@ use mathlib.Core.Bool.{Bool}
 use mathlib.Core.List.{[]}
 use mathlib.Core.Path.{_≡_, sym}
 use Rattle.refusal.specs.Reply.{accepted}
+use Rattle.control.proofs.Named.{latch-byte}
 use Rattle.board.specs.declared.Board.{Board}
 use Rattle.board.proofs.Channels.{not-above}
 use Rattle.step.specs.Step.{step, steps}
@@ -15,7 +16,7 @@ use Rattle.reading.specs.ReadCount.{readCount}
 use Rattle.reading.specs.Promise.{ReadsTheCount, NeverAlike, BeginsAgain, CountsThenReads, AsThreeCalls, ReadsAndBegins}
 use Rattle.reading.proofs.Spelling.{left-none, left-apart, spelled-once}
 use Rattle.reading.proofs.Reading as steps-of
-use Rattle.reading.proofs.ThreeCalls.{latch-byte, latch-taken, three-calls}
+use Rattle.reading.proofs.ThreeCalls.{latch-taken, three-calls}
 use Rattle.reading.proofs.Turns.{read-reply}
 use Rattle.reading.proofs.After.{begins-after}
 

@@ -13,14 +13,15 @@ use Rattle.board.specs.declared.Board.{Board}
 use Rattle.board.specs.Board.{channelAt}
 use Rattle.board.specs.Outcome.{byte}
 use Rattle.step.specs.Step.{step, steps}
+use Rattle.step.specs.Accepted.{AllAccepted}
 use Rattle.step.proofs.Three.{step-three, steps-three}
 use Rattle.reading.specs.Beginning.{Begins}
 use Rattle.reading.specs.Counts.{countsOn}
-use Rattle.reading.specs.Reading.{AllAccepted, readOf, Reading, latch, countsMade, countsInAll, atFirst, atSecond, atEnd, firstReply, secondReply}
+use Rattle.reading.specs.Reading.{readOf, Reading, latch, countsMade, countsInAll, atFirst, atSecond, atEnd, firstReply, secondReply}
 use Rattle.reading.specs.Spelling.{remaining, Spells}
 use Rattle.reading.proofs.Counted.{Counted}
 use Rattle.reading.proofs.Passing.{all-pass}
-use Rattle.reading.proofs.Listed.{steps-then, accepted-first, accepted-then}
+use Rattle.step.proofs.Listed.{steps-then, accepted-first, accepted-then}
 use Rattle.reading.proofs.Holds.{Holds, latch-holds, undisturbed-holds, first-byte, first-holds, second-byte, second-may}
 use Rattle.reading.proofs.After.{begins-after}
 use Rattle.reading.proofs.Turns.{read-reply, read-leaves, command-turn}

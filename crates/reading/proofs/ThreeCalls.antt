@@ -1,19 +1,18 @@
 -- Latch and two reads of a channel, as calls of the board and on its record: where a reading may begin, the bytes make up the counting element. Assumes nothing.
-use Prim.Native.Nat.{ℕ, zero, suc, _*_, _<_}
-use mathlib.Core.Bool.{Bool, true, false}
+use Prim.Native.Nat.{ℕ, _<_}
+use mathlib.Core.Bool.{true}
 use mathlib.Core.List.{[]}
-use mathlib.Core.Path.{_≡_, refl, ap, _∙_}
+use mathlib.Core.Path.{_≡_, ap, _∙_}
 use native.Mathlib.Omega.{arith}
 use lib.ListN.{length}
 use Rattle.channel.specs.declared.Channel.{Channel}
 use Rattle.channel.specs.declared.ReadState.the-variants.{NoRead}
 use Rattle.control.specs.declared.Command.{Command}
-use Rattle.control.specs.declared.Command.the-variants.{LatchCount}
-use Rattle.control.specs.Control.{commandOf}
+use Rattle.control.proofs.Named.{latch-byte}
 use Rattle.latch.specs.Latching.{latchCount}
 use Rattle.latch.specs.Reading.{readByte}
-use Rattle.event.specs.declared.Event.the-variants.{Unchanged}
-use Rattle.event.specs.Event.{eventOf, placeEvent}
+use Rattle.event.specs.Event.{placeEvent}
+use Rattle.event.proofs.Room.{standing-level}
 use Rattle.board.specs.declared.Board.{Board}
 use Rattle.board.specs.Board.{channelAt, withChannel}
 use Rattle.board.proofs.Channels.{put-found, put-again}
@@ -39,24 +38,13 @@ module _ (c : Channel) (may : mayBegin c ≡ true) where
   word-is-element =
       rw (first-byte (latchCount c) _ held, second-byte (readByte (latchCount c) .channel) _ (first-holds (latchCount c) _ held)) (omega arith)
 
-pub latch-byte : (n : ℕ) → n < 3 → commandOf (n * 64) ≡ LatchCount n
-unfolding commandOf
-latch-byte zero on = refl
-latch-byte (suc zero) on = refl
-latch-byte (suc (suc zero)) on = refl
-latch-byte (suc (suc (suc n))) on = absurd (omega arith)
-
-no-event : (n : ℕ) (level : Bool) → eventOf n level level ≡ Unchanged
-no-event n true = refl
-no-event n false = refl
-
 -- a latch of the channel's own, as the board's call
 abbrev latched : Board → ℕ → Outcome
 latched b n = record { reply = accepted (newPlace 0); board = withChannel b n (latchCount (channelAt b n)); events = [] }
 
 latch-settled : (b : Board) (n : ℕ) → settle b n (latchCount (channelAt b n)) [] 0 ≡ latched b n
 unfolding settle placeEvent latchCount
-latch-settled b n = simp (no-event n (channelAt b n .pins .output))
+latch-settled b n = simp (standing-level n (channelAt b n .pins .output))
 
 module _ (b : Board) (n : ℕ) (on : n < 3) where
   latch-outcome : step b (latchOf n) ≡ latched b n

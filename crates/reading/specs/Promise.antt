@@ -9,10 +9,11 @@ use Rattle.board.specs.declared.Board.{Board}
 use Rattle.board.specs.Board.{channelAt}
 use Rattle.step.specs.Operation.{Operation}
 use Rattle.step.specs.Step.{steps}
+use Rattle.step.specs.Accepted.{AllAccepted}
 use Rattle.reading.specs.Beginning.{mayBegin, Begins}
 use Rattle.reading.specs.Passing.{AllMayPass}
 use Rattle.reading.specs.Counts.{countsOn}
-use Rattle.reading.specs.Reading.{AllAccepted, threeCalls, Reading, countsMade, countsInAll, atEnd, firstReply, secondReply}
+use Rattle.reading.specs.Reading.{threeCalls, Reading, countsMade, countsInAll, atEnd, firstReply, secondReply}
 use Rattle.reading.specs.Spelling.{modulus, remaining, Spells}
 use Rattle.reading.specs.ReadCount.{readCount}
 

@@ -3,21 +3,17 @@ use Prim.Native.Nat.{ℕ, _+_, _*_}
 use mathlib.Core.Bool.{Bool}
 use mathlib.Core.List.{List, [], _∷_, _++_}
 use mathlib.Core.Path.{_≡_}
-use Rattle.refusal.specs.Reply.{Reply, accepted}
+use Rattle.refusal.specs.Reply.{Reply}
 use Rattle.control.specs.declared.Command.the-variants.{LatchCount}
 use Rattle.control.specs.Control.{commandOf}
 use Rattle.board.specs.declared.Board.{Board}
 use Rattle.board.specs.Outcome.{Value}
 use Rattle.step.specs.Operation.{Operation, WritePort, ReadPort}
 use Rattle.step.specs.Step.{step, steps}
+use Rattle.step.specs.Accepted.{AllAccepted}
 use Rattle.reading.specs.Beginning.{Begins}
 use Rattle.reading.specs.Passing.{AllMayPass}
 use Rattle.reading.specs.Counts.{countsOn}
-
--- "all in accepted calls": each when its turn comes
-abbrev pub AllAccepted : Board → List Operation → Type 0
-AllAccepted b [] = Unit
-AllAccepted b (o ∷ os) = ((value : Value) × (step b o .reply ≡ accepted value)) × AllAccepted (step b o .board) os
 
 -- a read of channel i's data port
 abbrev pub readOf : ℕ → Operation

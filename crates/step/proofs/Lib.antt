@@ -13,3 +13,4 @@ pub mod Touched
 pub mod Kept
 pub mod Warp
 pub mod Numbers
+pub mod Listed

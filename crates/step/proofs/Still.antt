@@ -12,6 +12,7 @@ use Rattle.channel.specs.Shared.{putElement}
 use Rattle.channel.proofs.Pick.{pick-holds}
 use Rattle.count.specs.Count.{count}
 use Rattle.latch.specs.Reading.{readByte}
+use Rattle.latch.proofs.Words.{read-pins}
 use Rattle.load.proofs.Stays.{pins-stay}
 use Rattle.board.specs.declared.Board.{Board}
 use Rattle.board.specs.Board.{channelAt, withChannel}
@@ -39,10 +40,6 @@ count-pins c = refl
 counts-pins : (k : ℕ) (c : Channel) → times k count c .pins ≡ c .pins
 counts-pins zero c = refl
 counts-pins (suc k) c = count-pins (times k count c) ∙ counts-pins k c
-
-read-pins : (c : Channel) → readByte c .channel .pins ≡ c .pins
-unfolding readByte
-read-pins c = refl
 
 module _ (b : Board) (three : length (b .channels) ≡ 3) (m : ℕ) where
   abbrev Still : Outcome → Type 0

@@ -1,5 +1,6 @@
 pub mod Operation
 pub mod Step
+pub mod Accepted
 pub mod Levels
 pub mod Refusals
 pub mod Time

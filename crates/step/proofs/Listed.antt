@@ -2,9 +2,9 @@
 use mathlib.Core.List.{List, [], _∷_, _++_}
 use mathlib.Core.Path.{_≡_, refl}
 use Rattle.board.specs.declared.Board.{Board}
 use Rattle.step.specs.Operation.{Operation}
 use Rattle.step.specs.Step.{step, steps}
-use Rattle.reading.specs.Reading.{AllAccepted}
+use Rattle.step.specs.Accepted.{AllAccepted}
 
 pub steps-then : (b : Board) (os ps : List Operation) → steps b (os ++ ps) ≡ steps (steps b os) ps
 steps-then b [] ps = refl
