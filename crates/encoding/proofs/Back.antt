@@ -1,5 +1,5 @@
 -- A channel that is stored and loaded again is the same channel, so equal bytes are of equal channels. Assumes nothing.
-use Prim.Native.Nat.{ℕ, _+_, _*_, _/_, _%_, _<_, _≤_}
+use Prim.Native.Nat.{ℕ, _%_, _≤_}
 use mathlib.Core.Path.{_≡_, refl}
 use mathlib.Core.Bool.{Bool, true, false}
 use mathlib.Core.List.{List, [], _++_}
@@ -8,6 +8,7 @@ use lib.Dec.{ltb}
 use lib.ListN.{length, length-append}
 use borrow.Author.Tests.{le-ltb}
 use Rattle.numbers.specs.Flags.{flagNumber}
+use Rattle.numbers.proofs.Little.{word-back, long-back}
 use Rattle.channel.specs.declared.Channel.{Channel}
 use Rattle.channel.specs.declared.ChannelMode.{ChannelMode}
 use Rattle.channel.specs.declared.RwMode.{RwMode}
@@ -100,13 +101,6 @@ state-back (Counting ReloadNextCycle) = refl
 
 byte-within : (n : ℕ) → ltb 255 (n % 256) ≡ false
 byte-within n = le-ltb _ _ (let h : n % 256 ≤ 255 = omega arith in h)
-
-word-back : (n : ℕ) → n < 65536 → n % 256 + 256 * (n / 256 % 256) ≡ n
-word-back n h = omega arith
-
-long-back : (n : ℕ) → n < 4294967296
-    → n % 256 + 256 * (n / 256 % 256) + 65536 * (n / 256 / 256 % 256 + 256 * (n / 256 / 256 / 256 % 256)) ≡ n
-long-back n h = omega arith
 
 all-readable : (c : Channel) (rest : List ℕ) → readable (channelBytes c ++ rest) ≡ true
 unfolding channelBytes readableTo

@@ -2,7 +2,7 @@
 use mathlib.Core.Path.{_≡_, refl}
 use mathlib.Core.List.{[], _∷_, _++_}
 use lib.ListN.{replicate}
-use Rattle.encoding.specs.Stored.{fourBytes}
+use Rattle.numbers.specs.Little.{fourBytes}
 use Rattle.encoding.specs.Loaded.{counterAt}
 
 stored : fourBytes 0x04030201 ≡ 1 ∷ 2 ∷ 3 ∷ 4 ∷ []

@@ -1,9 +1,10 @@
 -- docs/ENCODING.md, "A channel's record": which bytes are readable, and the channel that they spell.
-use Prim.Native.Nat.{ℕ, zero, suc, _+_, _*_}
+use Prim.Native.Nat.{ℕ, zero, suc}
 use mathlib.Core.Bool.{Bool, true, false, cond}
 use mathlib.Core.List.{List, [], _∷_}
 use lib.Dec.{ltb}
 use lib.ListN.{length, getD}
+use Rattle.numbers.specs.Little.{wordAt, longAt}
 use Rattle.channel.specs.declared.Channel.{Channel}
 use Rattle.channel.specs.declared.ControlWord.{ControlWord}
 use Rattle.channel.specs.declared.Reloading.{Reloading}
@@ -31,10 +32,6 @@ readableTo (suc k) bytes = cond (ltb (getD limits k 0) (getD bytes k 0)) false (
 abbrev pub readable : List ℕ → Bool
 readable = readableTo 29
 
--- "Numbers are little-endian."
-abbrev pub wordAt : List ℕ → ℕ → ℕ
-wordAt bytes k = getD bytes k 0 + 256 * getD bytes (k + 1) 0
-
 abbrev pub flagAt : List ℕ → ℕ → Bool
 flagAt bytes k = flagCoded (getD bytes k 0)
 
@@ -60,7 +57,7 @@ abbrev pub counterAt : List ℕ → Counter
 counterAt bytes =
     record {
       «channel_state» = stateCoded (getD bytes 14 0);
-      «cycles_in_state» = wordAt bytes 15 + 65536 * wordAt bytes 17;
+      «cycles_in_state» = longAt bytes 15;
       «counting_element» = wordAt bytes 19;
       ticked = flagAt bytes 21;
     }

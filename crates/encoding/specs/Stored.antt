@@ -1,7 +1,8 @@
 -- docs/ENCODING.md, "A channel's record": the 29 bytes of a channel, group by group in the order of the record.
-use Prim.Native.Nat.{ℕ, _/_, _%_}
+use Prim.Native.Nat.{ℕ}
 use mathlib.Core.List.{List, [], _∷_, _++_}
 use Rattle.numbers.specs.Flags.{flagNumber}
+use Rattle.numbers.specs.Little.{twoBytes, fourBytes}
 use Rattle.channel.specs.declared.Channel.{Channel}
 use Rattle.channel.specs.declared.ControlWord.{ControlWord}
 use Rattle.channel.specs.declared.Reloading.{Reloading}
@@ -11,13 +12,6 @@ use Rattle.channel.specs.declared.Latch.{Latch}
 use Rattle.channel.specs.declared.Pins.{Pins}
 use Rattle.channel.specs.Modes.{modeNumber}
 use Rattle.encoding.specs.Codes.{accessByte, loadStateByte, loadTypeByte, readStateByte, stateByte}
-
--- "Numbers are little-endian."
-abbrev pub twoBytes : ℕ → List ℕ
-twoBytes n = n % 256 ∷ n / 256 % 256 ∷ []
-
-abbrev pub fourBytes : ℕ → List ℕ
-fourBytes n = n % 256 ∷ n / 256 % 256 ∷ n / 256 / 256 % 256 ∷ n / 256 / 256 / 256 % 256 ∷ []
 
 -- places 0 to 2
 abbrev pub controlBytes : ControlWord → List ℕ

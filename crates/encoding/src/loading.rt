@@ -9,7 +9,7 @@ use channel::Load;
 use channel::Pins;
 use channel::Reloading;
 ghost use mathlib.Core.Path.{_≡_};
-ghost use Prim.Native.Nat.{_+_, _*_, _≤_};
+ghost use Prim.Native.Nat.{_≤_};
 ghost use lib.ListN.{length};
 ghost use Rattle.encoding.specs.Loaded.{readable, controlAt, reloadingAt, loadAt, counterAt, latchAt, pinsAt, channelAt, loadChannel};
 
@@ -69,18 +69,6 @@ fn readable(bytes: &[u8]) -> bool
     true
 }
 
-fn word(low: u8, high: u8) -> u16
-    ensures { λ r. ⌜ r ≡ low + 256 * high ⌝ }
-{
-    low as u16 + 256 * (high as u16)
-}
-
-fn long(low: u16, high: u16) -> u32
-    ensures { λ r. ⌜ r ≡ low + 65536 * high ⌝ }
-{
-    low as u32 + 65536 * (high as u32)
-}
-
 fn control_at(bytes: &[u8]) -> ControlWord
     requires { ⌜ 29 ≤ length (now bytes) ⌝ }
     ensures { λ r. ⌜ r ≡ controlAt (now (bytes .entry)) ⌝ }
@@ -102,7 +90,7 @@ fn reloading_at(bytes: &[u8]) -> Reloading
     Reloading {
         output_on_reload: codes::flag_coded(bytes[3]),
         reload_on_trigger: codes::flag_coded(bytes[4]),
-        load_mask: word(bytes[5], bytes[6]),
+        load_mask: numbers::word(bytes[5], bytes[6]),
     }
 }
 
@@ -113,8 +101,8 @@ fn load_at(bytes: &[u8]) -> Load
     let load_state = codes::load_state_coded(bytes[11]);
     let load_type = codes::load_type_coded(bytes[12]);
     Load {
-        count_register: word(bytes[7], bytes[8]),
-        reload_value: word(bytes[9], bytes[10]),
+        count_register: numbers::word(bytes[7], bytes[8]),
+        reload_value: numbers::word(bytes[9], bytes[10]),
         load_state,
         load_type,
         armed: codes::flag_coded(bytes[13]),
@@ -126,12 +114,12 @@ fn counter_at(bytes: &[u8]) -> Counter
     ensures { λ r. ⌜ r ≡ counterAt (now (bytes .entry)) ⌝ }
 {
     let channel_state = codes::state_coded(bytes[14]);
-    let low = word(bytes[15], bytes[16]);
-    let high = word(bytes[17], bytes[18]);
+    let low = numbers::word(bytes[15], bytes[16]);
+    let high = numbers::word(bytes[17], bytes[18]);
     Counter {
         channel_state,
-        cycles_in_state: long(low, high),
-        counting_element: word(bytes[19], bytes[20]),
+        cycles_in_state: numbers::long(low, high),
+        counting_element: numbers::word(bytes[19], bytes[20]),
         ticked: codes::flag_coded(bytes[21]),
     }
 }
@@ -142,7 +130,7 @@ fn latch_at(bytes: &[u8]) -> Latch
 {
     let read_state = codes::read_state_coded(bytes[25]);
     Latch {
-        output_latch: word(bytes[22], bytes[23]),
+        output_latch: numbers::word(bytes[22], bytes[23]),
         count_is_latched: codes::flag_coded(bytes[24]),
         read_state,
     }

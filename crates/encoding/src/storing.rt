@@ -4,7 +4,8 @@ use channel::Channel;
 ghost use mathlib.Core.Path.{_≡_};
 ghost use Prim.Native.Nat.{_%_};
 ghost use lib.ListN.{length};
-ghost use Rattle.encoding.specs.Stored.{twoBytes, fourBytes, controlBytes, reloadingBytes, loadBytes, counterBytes, latchBytes, pinsBytes, channelBytes};
+ghost use Rattle.numbers.specs.Little.{twoBytes, fourBytes};
+ghost use Rattle.encoding.specs.Stored.{controlBytes, reloadingBytes, loadBytes, counterBytes, latchBytes, pinsBytes, channelBytes};
 ghost use Rattle.encoding.specs.Front.{fits, putFront};
 
 fn low(n: u32) -> u8

@@ -2,3 +2,4 @@ pub mod Modulo
 pub mod Digits
 pub mod Times
 pub mod Flags
+pub mod Little

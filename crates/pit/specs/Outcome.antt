@@ -10,7 +10,8 @@ use Rattle.channel.specs.Fresh.{fresh}
 use Rattle.channel.specs.Queries.{getOutputState}
 use Rattle.encoding.specs.declared.loading.Loaded.{Loaded}
 use Rattle.encoding.specs.declared.loading.Loaded.the-variants.{Whole, Short, Unreadable}
-use Rattle.encoding.specs.Stored.{twoBytes, channelBytes}
+use Rattle.numbers.specs.Little.{twoBytes}
+use Rattle.encoding.specs.Stored.{channelBytes}
 use Rattle.encoding.specs.Loaded.{loadChannel}
 use Rattle.encoding.specs.Front.{fits, putFront}
 use Rattle.operation.specs.declared.asked.Asked.{Asked}

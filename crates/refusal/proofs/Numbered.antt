@@ -4,17 +4,17 @@ use mathlib.Core.List.{[], _∷_}
 use mathlib.Core.Path.{_≡_, refl}
 use lib.ListN.{getD}
 use Rattle.refusal.specs.declared.Refusal.{Refusal}
-use Rattle.refusal.specs.declared.Refusal.the-variants.{PortUnknown, ChannelAbove2, DivisorZero, TicksBelowWarp, RemainderTooLarge, TooManyCounts, PlacePastEnd, NoRoom}
+use Rattle.refusal.specs.declared.Refusal.the-variants.{PortUnknown, ChannelAbove2, DivisorZero, TicksBelowWarp, RemainderTooLarge, TooManyCounts, PlacePastEnd, NoRoom, TraceEnds, SettingsCount, TooManyOperations, UnknownCode, BytesAfter, RuleBroken}
 use Rattle.refusal.specs.Refusal.{refusalNumber}
 use Rattle.refusal.proofs.Apart.{apart-by}
 
--- no refusal has the number 0, or one above 8; some refusal stands there too
+-- no refusal has the number 0, or one above 14; some refusal stands there too
 abbrev pub refusalNumbered : ℕ → Refusal
 refusalNumbered number =
     getD
-    (PortUnknown ∷ PortUnknown ∷ ChannelAbove2 ∷ DivisorZero ∷ TicksBelowWarp ∷ RemainderTooLarge ∷ TooManyCounts ∷ PlacePastEnd ∷ NoRoom ∷ [])
+    (PortUnknown ∷ PortUnknown ∷ ChannelAbove2 ∷ DivisorZero ∷ TicksBelowWarp ∷ RemainderTooLarge ∷ TooManyCounts ∷ PlacePastEnd ∷ NoRoom ∷ TraceEnds ∷ SettingsCount ∷ TooManyOperations ∷ UnknownCode ∷ BytesAfter ∷ RuleBroken ∷ [])
     number
-    NoRoom
+    RuleBroken
 
 pub numbered-back : (r : Refusal) → refusalNumbered (refusalNumber r) ≡ r
 numbered-back PortUnknown = refl
@@ -25,6 +25,12 @@ numbered-back RemainderTooLarge = refl
 numbered-back TooManyCounts = refl
 numbered-back PlacePastEnd = refl
 numbered-back NoRoom = refl
+numbered-back TraceEnds = refl
+numbered-back SettingsCount = refl
+numbered-back TooManyOperations = refl
+numbered-back UnknownCode = refl
+numbered-back BytesAfter = refl
+numbered-back RuleBroken = refl
 
 pub numbers-apart : (r s : Refusal) → refusalNumber r ≡ refusalNumber s → r ≡ s
 numbers-apart = apart-by refusalNumber refusalNumbered numbered-back

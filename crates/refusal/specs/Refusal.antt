@@ -1,7 +1,7 @@
 -- Document 01, "Refusal numbers": the number of each refusal.
 use Prim.Native.Nat.{ℕ}
 use Rattle.refusal.specs.declared.Refusal.{Refusal}
-use Rattle.refusal.specs.declared.Refusal.the-variants.{PortUnknown, ChannelAbove2, DivisorZero, TicksBelowWarp, RemainderTooLarge, TooManyCounts, PlacePastEnd, NoRoom}
+use Rattle.refusal.specs.declared.Refusal.the-variants.{PortUnknown, ChannelAbove2, DivisorZero, TicksBelowWarp, RemainderTooLarge, TooManyCounts, PlacePastEnd, NoRoom, TraceEnds, SettingsCount, TooManyOperations, UnknownCode, BytesAfter, RuleBroken}
 
 abbrev pub refusalNumber : Refusal → ℕ
 -- "port not 0x40 to 0x43"
@@ -20,3 +20,15 @@ refusalNumber TooManyCounts = 6
 refusalNumber PlacePastEnd = 7
 -- "an event is due and fewer than 2 bytes are left from the place"
 refusalNumber NoRoom = 8
+-- "trace ends inside a field or operation"
+refusalNumber TraceEnds = 9
+-- "settings count not 2"
+refusalNumber SettingsCount = 10
+-- "operation count above 4,096"
+refusalNumber TooManyOperations = 11
+-- "operation code not 1 to 8"
+refusalNumber UnknownCode = 12
+-- "bytes after the last operation"
+refusalNumber BytesAfter = 13
+-- "a trace's model, target or number breaks its rule"
+refusalNumber RuleBroken = 14

@@ -1,4 +1,4 @@
-// Why a call is refused: document 01's table of refusal numbers, the calls of the board.
+// Why a call or a trace is refused: document 01's table of refusal numbers.
 ghost use mathlib.Core.Path.{_≡_};
 ghost use Rattle.refusal.specs.Refusal.{refusalNumber};
 
@@ -11,6 +11,12 @@ pub enum Refusal {
     TooManyCounts,
     PlacePastEnd,
     NoRoom,
+    TraceEnds,
+    SettingsCount,
+    TooManyOperations,
+    UnknownCode,
+    BytesAfter,
+    RuleBroken,
 }
 
 impl Refusal {
@@ -26,6 +32,12 @@ impl Refusal {
             Refusal::TooManyCounts => 6,
             Refusal::PlacePastEnd => 7,
             Refusal::NoRoom => 8,
+            Refusal::TraceEnds => 9,
+            Refusal::SettingsCount => 10,
+            Refusal::TooManyOperations => 11,
+            Refusal::UnknownCode => 12,
+            Refusal::BytesAfter => 13,
+            Refusal::RuleBroken => 14,
         }
     }
 }

@@ -1,0 +1,17 @@
+-- Numbers in bytes, the low byte first. Document 01: "Numbers are little-endian"; docs/ENCODING.md has the same words.
+use Prim.Native.Nat.{ℕ, _+_, _*_, _/_, _%_}
+use mathlib.Core.List.{List, [], _∷_}
+use lib.ListN.{getD}
+
+abbrev pub twoBytes : ℕ → List ℕ
+twoBytes n = n % 256 ∷ n / 256 % 256 ∷ []
+
+abbrev pub fourBytes : ℕ → List ℕ
+fourBytes n = n % 256 ∷ n / 256 % 256 ∷ n / 256 / 256 % 256 ∷ n / 256 / 256 / 256 % 256 ∷ []
+
+-- the number whose two, or four, bytes stand at a place
+abbrev pub wordAt : List ℕ → ℕ → ℕ
+wordAt bytes place = getD bytes place 0 + 256 * getD bytes (place + 1) 0
+
+abbrev pub longAt : List ℕ → ℕ → ℕ
+longAt bytes place = wordAt bytes place + 65536 * wordAt bytes (place + 2)
