@@ -1,0 +1,73 @@
+-- Document 01, "Recorded traces": the lines that the replay program prints. "A read byte prints as two upper-case hex digits, all other numbers in
+-- decimal."
+use Prim.Native.Nat.{ℕ}
+use mathlib.Core.Bool.{cond}
+use mathlib.Core.List.{List, _++_}
+use lib.Dec.{eqb}
+use lib.ListN.{getD}
+use Rattle.refusal.specs.Reply.{Reply, refused, accepted}
+use Rattle.channel.specs.declared.PitType.{PitType}
+use Rattle.channel.specs.declared.PitType.the-variants.{Model8253, Model8254}
+use Rattle.board.specs.Outcome.{Value, done, newPlace, byte, ticks, outputState, channelCount, retriggers, dirtyMarks, timerAccum}
+use Rattle.text.specs.Ascii.{ascii}
+use Rattle.text.specs.Number.{decimal, hex}
+
+-- every line ends in one
+abbrev pub newline : List ℕ
+newline = ascii "\n"
+
+abbrev pub modelName : PitType → List ℕ
+modelName Model8253 = ascii "8253"
+modelName Model8254 = ascii "8254"
+
+-- "a head line"
+unfoldable pub headLine : PitType → ℕ → List ℕ
+headLine model divisor = ascii "pit " ++ modelName model ++ ascii " divisor " ++ decimal divisor ++ newline
+
+-- "`refused N`"
+abbrev pub refusedText : ℕ → List ℕ
+refusedText number = ascii "refused " ++ decimal number
+
+-- "`read`": the byte in hex
+abbrev pub readText : ℕ → List ℕ
+readText x = ascii "read " ++ hex x
+
+-- "`ticks` and `left`": the timer ticks yielded, and the remainder that is kept
+abbrev pub ticksText : ℕ → ℕ → List ℕ
+ticksText number left = ascii "ticks " ++ decimal number ++ ascii " left " ++ decimal left
+
+-- "`out` with an event's two bytes"
+abbrev pub outText : List ℕ → List ℕ
+outText events = ascii "out " ++ decimal (getD events 0 0) ++ ascii " " ++ decimal (getD events 1 0)
+
+abbrev pub okText : List ℕ
+okText = ascii "ok"
+
+-- "its index, then `refused N`; or `read`, `ticks` and `left`, `out` with an event's two bytes, else `ok`". The events were lent "at place 0", so there is
+-- one where the new place is not 0
+abbrev pub valueText : Value → List ℕ → ℕ → List ℕ
+valueText (byte x) events left = readText x
+valueText (ticks number) events left = ticksText number left
+valueText (newPlace place) events left = cond (eqb place 0) okText (outText events)
+valueText done events left = okText
+valueText (outputState level) events left = okText
+valueText (channelCount register element counting) events left = okText
+valueText (retriggers answer) events left = okText
+valueText (dirtyMarks dirty counting ticked) events left = okText
+valueText (timerAccum number) events left = okText
+
+abbrev pub answerText : Reply Value → List ℕ → ℕ → List ℕ
+answerText (refused number) events left = refusedText number
+answerText (accepted value) events left = valueText value events left
+
+-- "one line for each operation (its index, then ...)"
+unfoldable pub operationLine : ℕ → Reply Value → List ℕ → ℕ → List ℕ
+operationLine index reply events left = decimal index ++ ascii " " ++ answerText reply events left ++ newline
+
+-- "an end line with the operation count"
+unfoldable pub endLine : ℕ → List ℕ
+endLine number = ascii "end " ++ decimal number ++ newline
+
+-- "a fault prints only `trace refused N at P`"
+unfoldable pub faultLine : ℕ → ℕ → List ℕ
+faultLine number place = ascii "trace refused " ++ decimal number ++ ascii " at " ++ decimal place ++ newline

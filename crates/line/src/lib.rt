@@ -1,0 +1,62 @@
+// The lines of a replay, by value: document 01, "Recorded traces".
+pub mod operation;
+
+use channel::PitType;
+pub use operation::operation_line;
+use refusal::Refusal;
+ghost use mathlib.Core.Path.{_≡_};
+ghost use Prim.Native.Nat.{_≤_};
+ghost use lib.ListN.{length};
+ghost use Rattle.refusal.specs.Refusal.{refusalNumber};
+ghost use Rattle.line.specs.Line.{lineOf, longest};
+ghost use Rattle.line.specs.Lines.{modelName, headLine, endLine, faultLine};
+
+// Bytes of a line and then zeros; the line ends at len.
+pub struct Line {
+    pub bytes: [u8; 48],
+    pub len: usize,
+}
+
+fn model_name(model: PitType) -> [u8; 4]
+    ensures { λ r. ⌜ r ≡ modelName model ⌝ }
+{
+    match model {
+        PitType::Model8253 => [b'8', b'2', b'5', b'3'],
+        PitType::Model8254 => [b'8', b'2', b'5', b'4'],
+    }
+}
+
+pub fn head_line(model: PitType, divisor: u32) -> Line
+    ensures { λ r. ⌜ (r ≡ lineOf (headLine model divisor)) × (length (headLine model divisor) ≤ longest) ⌝ }
+{
+    let mut bytes = [0u8; 48];
+    let name = model_name(model);
+    let mut place = text::put(&mut bytes, 0, b"pit ");
+    place = text::put(&mut bytes, place, &name);
+    place = text::put(&mut bytes, place, b" divisor ");
+    place = text::put_decimal(&mut bytes, place, divisor as u64);
+    place = text::put(&mut bytes, place, b"\n");
+    Line { bytes, len: place }
+}
+
+pub fn end_line(number: u32) -> Line
+    ensures { λ r. ⌜ (r ≡ lineOf (endLine number)) × (length (endLine number) ≤ longest) ⌝ }
+{
+    let mut bytes = [0u8; 48];
+    let mut place = text::put(&mut bytes, 0, b"end ");
+    place = text::put_decimal(&mut bytes, place, number as u64);
+    place = text::put(&mut bytes, place, b"\n");
+    Line { bytes, len: place }
+}
+
+pub fn fault_line(refusal: Refusal, at: usize) -> Line
+    ensures { λ r. ⌜ (r ≡ lineOf (faultLine (refusalNumber refusal) at)) × (length (faultLine (refusalNumber refusal) at) ≤ longest) ⌝ }
+{
+    let mut bytes = [0u8; 48];
+    let mut place = text::put(&mut bytes, 0, b"trace refused ");
+    place = text::put_decimal(&mut bytes, place, refusal.number() as u64);
+    place = text::put(&mut bytes, place, b" at ");
+    place = text::put_decimal(&mut bytes, place, at as u64);
+    place = text::put(&mut bytes, place, b"\n");
+    Line { bytes, len: place }
+}

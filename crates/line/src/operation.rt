@@ -1,0 +1,95 @@
+// The line of an operation: its index, and what it answered.
+use crate::Line;
+use board::Answer;
+use time::SystemTicks;
+use time::TimerTicks;
+ghost use mathlib.Core.Path.{_≡_};
+ghost use Prim.Native.Nat.{_+_, _≤_};
+ghost use lib.ListN.{length};
+ghost use Rattle.board.specs.Answer.{replyOf};
+ghost use Rattle.text.specs.Put.{put, answered};
+ghost use Rattle.line.specs.Line.{lineOf, longest};
+ghost use Rattle.line.specs.Lines.{refusedText, readText, ticksText, outText, okText, answerText, operationLine};
+
+fn put_refused(out: &mut [u8], place: usize, number: u8) -> usize
+    requires { ⌜ place + 32 ≤ length (now out) ⌝ }
+    ensures { λ r. ⌜ (answered r (now (out .exit)) ≡ put (refusedText number) (now (out .entry)) place) × (length (refusedText number) ≤ 32) ⌝ }
+{
+    let next = text::put(out, place, b"refused ");
+    text::put_decimal(out, next, number as u64)
+}
+
+fn put_read(out: &mut [u8], place: usize, byte: u8) -> usize
+    requires { ⌜ place + 32 ≤ length (now out) ⌝ }
+    ensures { λ r. ⌜ (answered r (now (out .exit)) ≡ put (readText byte) (now (out .entry)) place) × (length (readText byte) ≤ 32) ⌝ }
+{
+    let next = text::put(out, place, b"read ");
+    text::put_hex(out, next, byte)
+}
+
+fn put_ticks(out: &mut [u8], place: usize, number: TimerTicks, left: SystemTicks) -> usize
+    requires { ⌜ place + 32 ≤ length (now out) ⌝ }
+    ensures { λ r. ⌜ (answered r (now (out .exit)) ≡ put (ticksText (number .0) (left .0)) (now (out .entry)) place) × (length (ticksText (number .0) (left .0)) ≤ 32) ⌝ }
+{
+    let mut next = text::put(out, place, b"ticks ");
+    next = text::put_decimal(out, next, number.0 as u64);
+    next = text::put(out, next, b" left ");
+    text::put_decimal(out, next, left.0 as u64)
+}
+
+fn put_out(out: &mut [u8], place: usize, events: [u8; 2]) -> usize
+    requires { ⌜ place + 32 ≤ length (now out) ⌝ }
+    ensures { λ r. ⌜ (answered r (now (out .exit)) ≡ put (outText events) (now (out .entry)) place) × (length (outText events) ≤ 32) ⌝ }
+{
+    let mut next = text::put(out, place, b"out ");
+    next = text::put_decimal(out, next, events[0] as u64);
+    next = text::put(out, next, b" ");
+    text::put_decimal(out, next, events[1] as u64)
+}
+
+fn put_ok(out: &mut [u8], place: usize) -> usize
+    requires { ⌜ place + 32 ≤ length (now out) ⌝ }
+    ensures { λ r. ⌜ (answered r (now (out .exit)) ≡ put okText (now (out .entry)) place) × (length okText ≤ 32) ⌝ }
+{
+    text::put(out, place, b"ok")
+}
+
+fn put_answer(
+    out: &mut [u8],
+    place: usize,
+    answer: Answer,
+    events: [u8; 2],
+    left: SystemTicks,
+) -> usize
+    requires { ⌜ place + 32 ≤ length (now out) ⌝ }
+    ensures { λ r. ⌜ (answered r (now (out .exit)) ≡ put (answerText (replyOf answer) events (left .0)) (now (out .entry)) place) × (length (answerText (replyOf answer) events (left .0)) ≤ 32) ⌝ }
+{
+    match answer {
+        Answer::Refused(refusal) => put_refused(out, place, refusal.number()),
+        Answer::Byte(byte) => put_read(out, place, byte),
+        Answer::Ticks(number) => put_ticks(out, place, number, left),
+        Answer::Place(at) => {
+            if at == 0 {
+                return put_ok(out, place);
+            }
+            put_out(out, place, events)
+        }
+        Answer::Done => put_ok(out, place),
+        Answer::OutputState(_) => put_ok(out, place),
+        Answer::Count(_) => put_ok(out, place),
+        Answer::Retriggers(_) => put_ok(out, place),
+        Answer::Dirty(_, _, _) => put_ok(out, place),
+    }
+}
+
+// The events are the two bytes that were lent, as the operation left them; left is the remainder after it.
+pub fn operation_line(index: u32, answer: Answer, events: [u8; 2], left: SystemTicks) -> Line
+    ensures { λ r. ⌜ (r ≡ lineOf (operationLine index (replyOf answer) events (left .0))) × (length (operationLine index (replyOf answer) events (left .0)) ≤ longest) ⌝ }
+{
+    let mut bytes = [0u8; 48];
+    let mut place = text::put_decimal(&mut bytes, 0, index as u64);
+    place = text::put(&mut bytes, place, b" ");
+    place = put_answer(&mut bytes, place, answer, events, left);
+    place = text::put(&mut bytes, place, b"\n");
+    Line { bytes, len: place }
+}

@@ -1,0 +1,43 @@
+-- Document 01's number and place for each answer of the code, and what an answer says of a trace: the code holds no list of operations, it says how many
+-- there are and gives each by its index.
+use Prim.Native.Nat.{ℕ}
+use mathlib.Core.List.{List}
+use lib.ListN.{length}
+use Rattle.refusal.specs.Refusal.{refusalNumber}
+use Rattle.trace.specs.declared.Fault.{Fault}
+use Rattle.trace.specs.declared.head.Head.{Head}
+use Rattle.trace.specs.declared.head.Judged.{Judged}
+use Rattle.trace.specs.declared.head.Judged.the-variants as judged
+use Rattle.trace.specs.declared.operation.Operation.{Operation}
+use Rattle.trace.specs.declared.operation.OperationJudged.{OperationJudged}
+use Rattle.trace.specs.declared.operation.OperationJudged.the-variants as operation
+use Rattle.trace.specs.declared.judging.Found.{Found}
+use Rattle.trace.specs.declared.judging.Found.the-variants as found
+use Rattle.trace.specs.Judgement.{Judgement, refusedAt, sound, andThen}
+use Rattle.trace.specs.Trace.{Trace}
+
+abbrev pub fault : {A : Type 0} → Fault → Judgement A
+fault f = refusedAt (refusalNumber (f .refusal)) (f .place)
+
+abbrev pub headJudged : Judged → Judgement Head
+headJudged (judged.Sound h) = sound h
+headJudged (judged.Refused f) = fault f
+
+abbrev pub operationJudged : OperationJudged → Judgement Operation
+operationJudged (operation.Sound o) = sound o
+operationJudged (operation.Refused f) = fault f
+
+abbrev pub faultJudged : Found → Judgement Unit
+faultJudged (found.Fault f) = fault f
+faultJudged found.None = sound tt
+
+-- whether there is a fault, and which
+abbrev pub soundness : {A : Type 0} → Judgement A → Judgement Unit
+soundness j = andThen j (λ value. sound tt)
+
+-- what is said of a sound trace: divisor, model, and how many operations it has
+abbrev pub headIn : Trace → Head
+headIn t = record { divisor = t .divisor; model = t .model; operations = length (t .operations) }
+
+abbrev pub summary : Judgement Trace → Judgement Head
+summary j = andThen j (λ t. sound (headIn t))

@@ -1,0 +1,63 @@
+-- Document 01, "Recorded traces": the bytes of a list of operations. No function of the code makes them yet.
+use Prim.Native.Nat.{ℕ, _<_, _≤_}
+use mathlib.Core.List.{List, [], _∷_, _++_}
+use lib.ListN.{length}
+use Rattle.numbers.specs.Flags.{flagNumber}
+use Rattle.numbers.specs.Little.{fourBytes}
+use Rattle.channel.specs.declared.PitType.{PitType}
+use Rattle.channel.specs.declared.PitType.the-variants.{Model8253, Model8254}
+use Rattle.trace.specs.declared.operation.Operation.{Operation}
+use Rattle.trace.specs.declared.operation.Operation.the-variants.{WritePort, ReadPort, SetChannelGate, Counts, LoadCycle, CatchUp, Run, Reset}
+use Rattle.trace.specs.Trace.{Trace}
+
+-- "operations of six bytes: code, target, number."
+abbrev pub six : ℕ → ℕ → ℕ → List ℕ
+six code target number = code ∷ target ∷ fourBytes number
+
+-- "Codes: 1 write port, 2 read port, 3 gate, 4 counts, 5 load cycle, 6 catch-up, 7 run, 8 reset. Target 0 for 6, 7, 8. Number 0 for 2, 5, 8"
+abbrev pub operationBytes : Operation → List ℕ
+operationBytes (WritePort port byte) = six 1 port byte
+operationBytes (ReadPort port) = six 2 port 0
+operationBytes (SetChannelGate channel level) = six 3 channel (flagNumber level)
+operationBytes (Counts channel number) = six 4 channel number
+operationBytes (LoadCycle channel) = six 5 channel 0
+operationBytes (CatchUp given) = six 6 0 (given .0)
+operationBytes (Run given) = six 7 0 (given .0)
+operationBytes Reset = six 8 0 0
+
+abbrev pub operationsBytes : List Operation → List ℕ
+operationsBytes [] = []
+operationsBytes (o ∷ os) = operationBytes o ++ operationsBytes os
+
+-- "(0 8253, 1 8254)"
+abbrev pub modelNumber : PitType → ℕ
+modelNumber Model8253 = 0
+modelNumber Model8254 = 1
+
+-- "Section one: count 2, then divisor and model (0 8253, 1 8254). Section two: operation count, then operations"
+unfoldable pub traceBytes : Trace → List ℕ
+traceBytes t =
+    fourBytes 2 ++ fourBytes (t .divisor) ++ fourBytes (modelNumber (t .model)) ++ fourBytes (length (t .operations))
+    ++ operationsBytes (t .operations)
+
+-- numbers that the six bytes can hold. Every operation of a program is one: its fields' types say so
+abbrev pub Holds : Operation → Type 0
+Holds (WritePort port byte) = (port < 256) × (byte < 256)
+Holds (ReadPort port) = port < 256
+Holds (SetChannelGate channel level) = channel < 256
+Holds (Counts channel number) = (channel < 256) × (number < 4294967296)
+Holds (LoadCycle channel) = channel < 256
+Holds (CatchUp given) = given .0 < 4294967296
+Holds (Run given) = given .0 < 4294967296
+Holds Reset = Unit
+
+abbrev pub AllHold : List Operation → Type 0
+AllHold [] = Unit
+AllHold (o ∷ os) = Holds o × AllHold os
+
+-- a trace that can be written down: a divisor above zero, at most 4,096 operations
+pub record Writable (t : Trace) : Type 0 where
+  pub divisor-above : 0 < t .divisor
+  pub divisor-fits : t .divisor < 4294967296
+  pub not-too-many : length (t .operations) ≤ 4096
+  pub numbers-fit : AllHold (t .operations)

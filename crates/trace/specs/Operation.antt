@@ -1,0 +1,45 @@
+-- Document 01, "Recorded traces": "operations of six bytes: code, target, number."
+use Prim.Native.Nat.{ℕ, _+_, _*_}
+use mathlib.Core.Bool.{cond}
+use mathlib.Core.List.{List}
+use lib.Dec.{eqb}
+use lib.ListN.{getD}
+use Rattle.trace.specs.Number.{numberAt}
+use Rattle.trace.specs.declared.rule.Rule.{Rule}
+use Rattle.trace.specs.declared.rule.Rule.the-variants.{None, Code, Target, Number}
+use Rattle.trace.specs.declared.operation.Operation.{Operation}
+use Rattle.trace.specs.declared.operation.Operation.the-variants.{WritePort, ReadPort, SetChannelGate, Counts, LoadCycle, CatchUp, Run, Reset}
+use Rattle.trace.specs.Judgement.{Judgement, refusedAt, sound, present}
+use Rattle.trace.specs.Rule.{brokenRule}
+
+-- "Codes: 1 write port, 2 read port, 3 gate, 4 counts, 5 load cycle, 6 catch-up, 7 run, 8 reset."
+abbrev pub operationOf : ℕ → ℕ → ℕ → Operation
+operationOf code target number =
+    cond (eqb code 1) (WritePort target number)
+    (cond (eqb code 2) (ReadPort target)
+    (cond (eqb code 3) (SetChannelGate target (eqb number 1))
+    (cond (eqb code 4) (Counts target number)
+    (cond (eqb code 5) (LoadCycle target)
+    (cond (eqb code 6) (CatchUp (record { 0 = number }))
+    (cond (eqb code 7) (Run (record { 0 = number })) Reset))))))
+
+-- 12 "operation code not 1 to 8", 14 "a trace's ... target or number breaks its rule": each at its field
+abbrev pub judgedBy : {A : Type 0} → Rule → ℕ → A → Judgement A
+judgedBy None place value = sound value
+judgedBy Code place value = refusedAt 12 place
+judgedBy Target place value = refusedAt 14 (place + 1)
+judgedBy Number place value = refusedAt 14 (place + 2)
+
+-- the operation whose six bytes begin at a place
+abbrev pub sixBytes : List ℕ → ℕ → Judgement Operation
+sixBytes bytes place =
+    judgedBy (brokenRule (getD bytes place 0) (getD bytes (place + 1) 0) (numberAt bytes (place + 2))) place
+    (operationOf (getD bytes place 0) (getD bytes (place + 1) 0) (numberAt bytes (place + 2)))
+
+-- the operations stand one after another behind the 16 bytes of the head
+abbrev pub placeOf : ℕ → ℕ
+placeOf index = 16 + 6 * index
+
+-- "Of an operation all six bytes, then code, target, number."
+unfoldable pub operationAt : List ℕ → ℕ → Judgement Operation
+operationAt bytes index = present bytes (placeOf index + 6) (sixBytes bytes (placeOf index))

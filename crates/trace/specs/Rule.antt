@@ -1,0 +1,25 @@
+-- Document 01, "Recorded traces": the rules of an operation's code, target and number.
+use Prim.Native.Nat.{ℕ}
+use mathlib.Core.Bool.{Bool, false, not, cond, _&&_, _||_}
+use lib.Dec.{eqb, ltb}
+use Rattle.trace.specs.declared.rule.Rule.{Rule}
+use Rattle.trace.specs.declared.rule.Rule.the-variants.{None, Code, Target, Number}
+
+-- 12 "operation code not 1 to 8"
+abbrev pub codeBroken : ℕ → Bool
+codeBroken code = eqb code 0 || ltb 8 code
+
+-- "Target 0 for 6, 7, 8."
+abbrev pub targetBroken : ℕ → ℕ → Bool
+targetBroken code target = cond (ltb code 6) false (not (eqb target 0))
+
+-- "Number 0 for 2, 5, 8; at most 255 for 1; at most 1 for 3."
+abbrev pub numberBroken : ℕ → ℕ → Bool
+numberBroken code number =
+    cond (eqb code 2 || (eqb code 5 || eqb code 8)) (not (eqb number 0))
+    (cond (eqb code 1) (ltb 255 number) (cond (eqb code 3) (ltb 1 number) false))
+
+-- "Of an operation all six bytes, then code, target, number."
+abbrev pub brokenRule : ℕ → ℕ → ℕ → Rule
+brokenRule code target number =
+    cond (codeBroken code) Code (cond (targetBroken code target) Target (cond (numberBroken code number) Number None))

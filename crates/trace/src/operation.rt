@@ -1,0 +1,86 @@
+// One operation: six bytes, its rule, and what it asks for.
+use crate::Fault;
+use crate::field::number_at;
+use crate::rule::Rule;
+use crate::rule::broken_rule;
+use refusal::Refusal;
+use time::SystemTicks;
+ghost use mathlib.Core.Path.{_≡_};
+ghost use Prim.Native.Nat.{_≤_, _<_};
+ghost use Rattle.trace.specs.Operation.{operationOf, operationAt};
+ghost use Rattle.trace.specs.Answer.{operationJudged};
+
+// Ports and channels are as the trace has them: a bad one is refused when it is run.
+pub enum Operation {
+    // Port and byte.
+    WritePort(u8, u8),
+    // Port.
+    ReadPort(u8),
+    // Channel and level.
+    SetChannelGate(u8, bool),
+    // Channel and number.
+    Counts(u8, u32),
+    // Channel.
+    LoadCycle(u8),
+    CatchUp(SystemTicks),
+    Run(SystemTicks),
+    Reset,
+}
+
+pub enum OperationJudged {
+    Sound(Operation),
+    Refused(Fault),
+}
+
+// Codes 5 to 8.
+fn later_operation(code: u8, target: u8, number: u32) -> Operation
+    requires { ⌜ 5 ≤ code ⌝ }
+    ensures { λ r. ⌜ r ≡ operationOf code target number ⌝ }
+{
+    match code {
+        5 => Operation::LoadCycle(target),
+        6 => Operation::CatchUp(SystemTicks(number)),
+        7 => Operation::Run(SystemTicks(number)),
+        _ => Operation::Reset,
+    }
+}
+
+fn operation_of(code: u8, target: u8, number: u32) -> Operation
+    requires { ⌜ 1 ≤ code ⌝ }
+    requires { ⌜ (code ≡ 1 → number < 256) ⌝ }
+    ensures { λ r. ⌜ r ≡ operationOf code target number ⌝ }
+{
+    match code {
+        1 => Operation::WritePort(target, number as u8),
+        2 => Operation::ReadPort(target),
+        3 => Operation::SetChannelGate(target, number == 1),
+        4 => Operation::Counts(target, number),
+        _ => later_operation(code, target, number),
+    }
+}
+
+fn refused(refusal: Refusal, place: usize) -> OperationJudged
+    ensures { λ r. ⌜ r ≡ OperationJudged.Refused (record { refusal = refusal; place = place }) ⌝ }
+{
+    OperationJudged::Refused(Fault { refusal, place })
+}
+
+// The operation of an index, whatever the trace says of its number of operations. Refusals 9, 12 and 14.
+pub fn operation_at(bytes: &[u8], index: u32) -> OperationJudged
+    ensures { λ r. ⌜ operationJudged r ≡ operationAt (now (bytes .entry)) index ⌝ }
+{
+    let place = 16 + 6 * (index as usize);
+    if bytes.len() < place + 6 {
+        return refused(Refusal::TraceEnds, bytes.len());
+    }
+    let code = bytes[place];
+    let target = bytes[place + 1];
+    let number = number_at(bytes, place + 2);
+    let rule = broken_rule(code, target, number);
+    match rule {
+        Rule::Code => refused(Refusal::UnknownCode, place),
+        Rule::Target => refused(Refusal::RuleBroken, place + 1),
+        Rule::Number => refused(Refusal::RuleBroken, place + 2),
+        Rule::None => OperationJudged::Sound(operation_of(code, target, number)),
+    }
+}
