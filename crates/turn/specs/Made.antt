@@ -1,0 +1,24 @@
+-- An operation of a trace made on a board: one step of the board, with the two lent bytes after it.
+use mathlib.Core.List.{List, [], _∷_}
+use Rattle.trace.specs.declared.operation.Operation.{Operation}
+use Rattle.board.specs.declared.Board.{Board}
+use Rattle.board.specs.Outcome.{Outcome}
+use Rattle.board.specs.Answer.{replyOf}
+use Rattle.step.specs.Step.{step}
+use Rattle.turn.specs.declared.making.Made.{Made}
+use Rattle.turn.specs.Asked.{asked, lentAfter}
+
+abbrev pub withLent : Operation → Outcome → Outcome
+withLent o outcome = record { reply = outcome .reply; board = outcome .board; events = lentAfter o (outcome .events) }
+
+unfoldable pub make : Board → Operation → Outcome
+make b o = withLent o (step b (asked o))
+
+-- the board after a list of operations: "A refused operation does not stop the rest."
+abbrev pub makeAll : Board → List Operation → Board
+makeAll b [] = b
+makeAll b (o ∷ os) = makeAll (make b o .board) os
+
+-- what the code answers
+abbrev pub madeOutcome : Made → Outcome
+madeOutcome m = record { reply = replyOf (m .answer); board = m .board; events = m .events }
