@@ -1,12 +1,8 @@
-// Recorded operations on a board, and the whole replay of a trace.
+// The whole replay of a trace: from its bytes to the bytes that are printed.
 //
-// making.rt has one operation by value. The runner (running.rt) owns the board and changes it where it stands: turn.rt finds an operation's port or
-// channel, working.rt does its work on one channel's record. replaying.rt is the whole, from a trace's bytes to the bytes that are printed.
-pub mod making;
+// running.rt owns the board and changes it where it stands, operation by operation; replaying.rt judges the trace first and puts the head and the end
+// around the operations' lines.
 mod replaying;
 mod running;
-pub mod turn;
-pub mod working;
 
-pub use making::make;
 pub use replaying::replay;

@@ -38,8 +38,7 @@ kept code target number e =
     let code-kept = none-of (codeBroken code) Code _ (λ none. none) e in
     let target-kept = none-of (targetBroken code target) Target _ (λ none. none) (code-kept .1) in
     let number-kept = none-of (numberBroken code number) Number None (λ none. none) (target-kept .1) in
-    let zero-not = eqb-false code 0 (either (eqb code 0) (ltb 8 code) (code-kept .0) .0) in
-    (
+    let zero-not = eqb-false code 0 (either (eqb code 0) (ltb 8 code) (code-kept .0) .0) in (
       omega (arith, zero-not),
       λ one. let h : number ≤ 255 = ltb-false 255 number (subst (λ (k : ℕ). numberBroken k number ≡ false) one (number-kept .0)) in omega (arith, h),
     )

@@ -1,2 +1,9 @@
 pub mod Codes
+pub mod Values
 pub mod Turns
+pub mod Indexed
+pub mod Back
+pub mod Enough
+pub mod Deciding
+pub mod Refusals
+pub mod Apart

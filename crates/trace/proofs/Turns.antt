@@ -34,7 +34,7 @@ pub at-end : (bytes : List ℕ) (k n : ℕ) → k ≡ n → soundness (operation
 at-end bytes k n e = let none : n - k ≡ zero = omega arith in rw none (rw e refl)
 
 -- a judgement of as many operations as are asked for
-abbrev Counts : ℕ → Judgement (List Operation) → Type 0
+abbrev pub Counts : ℕ → Judgement (List Operation) → Type 0
 Counts n (refusedAt number place) = Unit
 Counts n (sound os) = length os ≡ n
 

@@ -1,0 +1,103 @@
+// The runner: one loop that owns the board. No function on its path takes or hands back a board.
+use board::Answer;
+use board::Board;
+use time::SystemTicks;
+use trace::operation::OperationJudged;
+use turn::finding::Turn;
+ghost use mathlib.Core.Path.{_≡_};
+ghost use Prim.Native.Nat.{_+_, _*_, _≤_};
+ghost use lib.ListN.{length};
+ghost use Rattle.board.specs.Answer.{replyOf};
+ghost use Rattle.line.specs.Line.{longest};
+ghost use Rattle.line.specs.Lines.{operationLine};
+ghost use Rattle.text.specs.Put.{put, answered};
+ghost use Rattle.trace.specs.Judgement.{sound};
+ghost use Rattle.trace.specs.Trace.{operationsFrom};
+ghost use Rattle.trace.specs.Answer.{soundness};
+ghost use Rattle.runner.specs.Printed.{operationsOf, linesFrom};
+
+// An operation's line, put behind those that are there.
+fn say(
+    out: &mut [u8],
+    place: usize,
+    index: u32,
+    answer: Answer,
+    events: [u8; 2],
+    left: SystemTicks,
+) -> usize
+    ensures { λ r. ⌜ (answered r (now (out .exit)) ≡ put (operationLine index (replyOf answer) events (left .0)) (now (out .entry)) place) × (length (operationLine index (replyOf answer) events (left .0)) ≤ longest) ⌝ }
+{
+    let line = line::operation_line(index, answer, events, left);
+    let text = line.bytes;
+    let len = line.len;
+    text::put(out, place, &text[..len])
+}
+
+// The lines of the operations from the first index on, as many as are asked for.
+pub(crate) fn lines(
+    trace: &[u8],
+    start: Board,
+    first: u32,
+    number: u32,
+    out: &mut [u8],
+    place: usize,
+) -> usize
+    requires { ⌜ soundness (operationsFrom (now trace) first number) ≡ sound tt ⌝ }
+    requires { ⌜ first + number ≤ 4096 ⌝ }
+    requires { ⌜ place + longest * number ≤ length (now out) ⌝ }
+    ensures { λ r. ⌜ (answered r (now (out .exit)) ≡ put (linesFrom start first (operationsOf (operationsFrom (now (trace .entry)) first number))) (now (out .entry)) place) × (r ≤ place + longest * number) ⌝ }
+{
+    let mut b = start;
+    let mut at = place;
+    let mut j: u32 = 0;
+    while j < number {
+        let index = first + j;
+        let found = trace::operation_at(trace, index);
+        let OperationJudged::Sound(operation) = found else {
+            return at;
+        };
+        j += 1;
+        let turn = turn::turn_of(operation);
+        let mut events = [0u8; 2];
+        match turn {
+            Turn::OnChannel(n, work) => {
+                let i = n as usize;
+                let c = b.channels[i];
+                let model = b.model;
+                let worked = turn::work_on(c, n, work, model, b.defer, &mut events);
+                let next = worked.channel;
+                b.channels[i] = next;
+                let answer = worked.answer;
+                let left = b.remainder;
+                at = say(out, at, index, answer, events, left);
+            }
+            Turn::Elapse(given, warp, defers) => {
+                let remainder = b.remainder;
+                let since = b.warp;
+                let elapsed =
+                    turn::elapse(given, warp, defers, b.divisor, remainder, since, b.defer);
+                let left = elapsed.remainder;
+                let next = elapsed.warp;
+                b.remainder = left;
+                b.warp = next;
+                b.defer = elapsed.defer;
+                let answer = elapsed.answer;
+                at = say(out, at, index, answer, events, left);
+            }
+            Turn::Reset => {
+                let c0 = b.channels[0];
+                let c1 = b.channels[1];
+                let c2 = b.channels[2];
+                let channels = [c0.reset(), c1.reset(), c2.reset()];
+                b.channels = channels;
+                let left = b.remainder;
+                at = say(out, at, index, Answer::Done, events, left);
+            }
+            Turn::Say(answer) => {
+                let left = b.remainder;
+                at = say(out, at, index, answer, events, left);
+            }
+        }
+    }
+    at
+}

@@ -1,0 +1,110 @@
+-- A trace that can be written down is read back from its bytes, so that equal bytes are of equal traces. Assumes nothing.
+use Prim.Native.Nat.{ℕ, suc, _+_, _<_, _≤_}
+use mathlib.Core.Path.{_≡_, refl, sym, subst}
+use mathlib.Core.Bool.{true, false}
+use mathlib.Core.List.{List, [], _∷_, _++_, append-assoc}
+use native.Mathlib.Omega.{arith}
+use lib.ListN.{length, getD, length-append}
+use lib.Seq.{getD-append-add}
+use lib.Dec.{ltb}
+use borrow.Author.Tests.{le-ltb, ne-eqb}
+use Rattle.numbers.specs.Little.{fourBytes}
+use Rattle.numbers.proofs.Little.{long-back}
+use Rattle.channel.specs.declared.PitType.{PitType}
+use Rattle.channel.specs.declared.PitType.the-variants.{Model8253, Model8254}
+use Rattle.trace.specs.declared.rule.Rule.the-variants.{None}
+use Rattle.trace.specs.declared.operation.Operation.{Operation}
+use Rattle.trace.specs.declared.operation.Operation.the-variants.{WritePort, ReadPort, SetChannelGate, Counts, LoadCycle, CatchUp, Run, Reset}
+use Rattle.trace.specs.Judgement.{sound}
+use Rattle.trace.specs.Number.{numberAt}
+use Rattle.trace.specs.Head.{modelOf, readHead}
+use Rattle.trace.specs.Rule.{brokenRule}
+use Rattle.trace.specs.Operation.{operationOf, placeOf, operationAt}
+use Rattle.trace.specs.Trace.{Trace, operationsFrom, readTrace}
+use Rattle.trace.specs.Bytes.{six, operationBytes, operationsBytes, modelNumber, traceBytes, Holds, AllHold, Writable}
+
+model-back : (model : PitType) → (modelNumber model ≤ 1) × (modelOf (modelNumber model) ≡ model)
+model-back Model8253 = (omega arith, refl)
+model-back Model8254 = (omega arith, refl)
+
+-- four numbers by their rules, with the bytes that they need
+head-from : (bytes : List ℕ) (divisor : ℕ) (model : PitType) (operations : ℕ) → 16 ≤ length bytes → numberAt bytes 0 ≡ 2 → numberAt bytes 4 ≡ divisor
+    → numberAt bytes 8 ≡ modelNumber model → numberAt bytes 12 ≡ operations → 0 < divisor → operations ≤ 4096
+    → readHead bytes ≡ sound (record { divisor = divisor; model = model; operations = operations })
+unfolding readHead
+head-from bytes divisor model operations long count-is divisor-is model-is operations-is above few =
+    let there : (end : ℕ) → end ≤ 16 → ltb (length bytes) end ≡ false = λ end h. le-ltb (length bytes) end (omega arith) in
+    simp (there 4 (omega arith), there 8 (omega arith), there 12 (omega arith), there 16 (omega arith), count-is, divisor-is, ne-eqb divisor 0 (λ none. absurd (omega arith)), model-is, le-ltb 1 (modelNumber model) (model-back model .0), operations-is, le-ltb 4096 operations few, model-back model .1)
+
+abbrev headBytes : ℕ → PitType → ℕ → List ℕ
+headBytes divisor model operations = fourBytes 2 ++ fourBytes divisor ++ fourBytes (modelNumber model) ++ fourBytes operations
+
+head-back : (divisor : ℕ) (model : PitType) (operations : ℕ) (rest : List ℕ) → 0 < divisor → divisor < 4294967296 → operations ≤ 4096
+    → readHead (headBytes divisor model operations ++ rest) ≡ sound (record { divisor = divisor; model = model; operations = operations })
+unfolding numberAt
+head-back divisor model operations rest above fits few =
+    head-from (headBytes divisor model operations ++ rest) divisor model operations (omega arith) refl (long-back divisor fits)
+    (long-back (modelNumber model) (omega (arith, model-back model .0))) (long-back operations (omega arith)) above few
+
+-- six bytes by their rules
+six-from : (bytes : List ℕ) (i code target number : ℕ) → placeOf i + 6 ≤ length bytes → getD bytes (placeOf i) 0 ≡ code
+    → getD bytes (placeOf i + 1) 0 ≡ target → numberAt bytes (placeOf i + 2) ≡ number → brokenRule code target number ≡ None
+    → operationAt bytes i ≡ sound (operationOf code target number)
+unfolding operationAt
+six-from bytes i code target number long code-is target-is number-is kept = simp (le-ltb (length bytes) (placeOf i + 6) long, code-is, target-is, number-is, kept)
+
+six-back : (front rest : List ℕ) (i code target number : ℕ) → length front ≡ placeOf i → number < 4294967296 → brokenRule code target number ≡ None
+    → operationAt (front ++ (six code target number ++ rest)) i ≡ sound (operationOf code target number)
+unfolding numberAt
+six-back front rest i code target number e fits kept =
+    let here = six code target number ++ rest in
+    let place = placeOf i in
+    let at : (k p : ℕ) → length front + k ≡ p → getD (front ++ here) p 0 ≡ getD here k 0
+    = λ k p q. subst (λ (n : ℕ). getD (front ++ here) n 0 ≡ getD here k 0) q (getD-append-add front here k 0) in
+    let whole : length (front ++ here) ≡ length front + length here = length-append front here in
+    six-from (front ++ here) i code target number (omega arith) (at 0 place (omega arith)) (at 1 (place + 1) (omega arith))
+    (simp (at 2 (place + 2) (omega arith), at 3 (place + 2 + 1) (omega arith), at 4 (place + 2 + 2) (omega arith), at 5 (place + 2 + 2 + 1) (omega arith)) (long-back number fits))
+    kept
+
+operation-back : (front rest : List ℕ) (i : ℕ) (o : Operation) → length front ≡ placeOf i → Holds o
+    → operationAt (front ++ (operationBytes o ++ rest)) i ≡ sound o
+operation-back front rest i (WritePort port byte) e h =
+    six-back front rest i 1 port byte e (omega (arith, h .1)) (rw (le-ltb 255 byte (omega (arith, h .1))) refl)
+operation-back front rest i (ReadPort port) e h = six-back front rest i 2 port 0 e (omega arith) refl
+operation-back front rest i (SetChannelGate channel true) e h = six-back front rest i 3 channel 1 e (omega arith) refl
+operation-back front rest i (SetChannelGate channel false) e h = six-back front rest i 3 channel 0 e (omega arith) refl
+operation-back front rest i (Counts channel number) e h = six-back front rest i 4 channel number e (h .1) refl
+operation-back front rest i (LoadCycle channel) e h = six-back front rest i 5 channel 0 e (omega arith) refl
+operation-back front rest i (CatchUp given) e h = six-back front rest i 6 0 (given .0) e h refl
+operation-back front rest i (Run given) e h = six-back front rest i 7 0 (given .0) e h refl
+operation-back front rest i Reset e h = six-back front rest i 8 0 0 e (omega arith) refl
+
+six-long : (o : Operation) → length (operationBytes o) ≡ 6
+six-long (WritePort port byte) = refl
+six-long (ReadPort port) = refl
+six-long (SetChannelGate channel level) = refl
+six-long (Counts channel number) = refl
+six-long (LoadCycle channel) = refl
+six-long (CatchUp given) = refl
+six-long (Run given) = refl
+six-long Reset = refl
+
+operations-back : (front : List ℕ) (i : ℕ) (os : List Operation) → length front ≡ placeOf i → AllHold os
+    → operationsFrom (front ++ operationsBytes os) i (length os) ≡ sound os
+operations-back front i [] e h =
+    let whole = length-append front [] in rw (le-ltb (placeOf i) (length (front ++ [])) (omega arith)) refl
+operations-back front i (o ∷ os) e h =
+    let longer = length-append front (operationBytes o) in
+    let six = six-long o in
+    rw (operation-back front (operationsBytes os) i o e (h .0))
+    (rw (sym (append-assoc front (operationBytes o) (operationsBytes os)))
+    (rw (operations-back (front ++ operationBytes o) (suc i) os (omega arith) (h .1)) refl))
+
+pub read-back : (t : Trace) → Writable t → readTrace (traceBytes t) ≡ sound t
+unfolding readTrace traceBytes
+read-back t w =
+    rw (head-back (t .divisor) (t .model) (length (t .operations)) (operationsBytes (t .operations)) (w .divisor-above) (w .divisor-fits) (w .not-too-many))
+    (rw (operations-back (headBytes (t .divisor) (t .model) (length (t .operations))) 0 (t .operations) refl (w .numbers-fit)) refl)
+
+pub bytes-alike : (t u : Trace) → Writable t → Writable u → traceBytes t ≡ traceBytes u → t ≡ u
+bytes-alike t u v w e = cc (read-back t v, read-back u w)

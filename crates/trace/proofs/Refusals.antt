@@ -1,0 +1,104 @@
+-- Demand 1 for traces: the number and the place of a refusal are those of the first row whose condition holds, both ways. Assumes nothing.
+use Prim.Native.Nat.{ℕ, zero, suc, _+_, _≤_}
+use mathlib.Core.Path.{_≡_, sym, _∙_}
+use mathlib.Core.Bool.{Bool, true, false, not, _||_}
+use mathlib.Core.List.{List, [], _∷_, _++_}
+use mathlib.Core.Logic.{_⊎_, inl, inr, ⊎-elim, _↔_}
+use native.Mathlib.Nat.{eq-or-lt-of-le}
+use native.Mathlib.Omega.{arith}
+use lib.Dec.{ltb, eqb}
+use lib.ListN.{length, getD}
+use borrow.Author.Tests.{eqb-false, ne-eqb}
+use Rattle.channel.proofs.Pick.{of-pick}
+use Rattle.trace.specs.declared.rule.Rule.{Rule}
+use Rattle.trace.specs.declared.operation.Operation.{Operation}
+use Rattle.trace.specs.declared.head.Head.{Head}
+use Rattle.trace.specs.Judgement.{Judgement, refusedAt, present, ruled, andThen}
+use Rattle.trace.specs.Number.{numberAt}
+use Rattle.trace.specs.Head.{headOf, readHead}
+use Rattle.trace.specs.Rule.{codeBroken, targetBroken, numberBroken}
+use Rattle.trace.specs.Operation.{placeOf, operationOf, operationAt, judgedBy}
+use Rattle.trace.specs.Trace.{before, operationsFrom, traceOf, afterHead, readTrace}
+use Rattle.trace.specs.Refusals.{Row, endsBefore, settingsCount, divisorZero, modelAbove1, tooManyOperations, unknownCode, TargetRule, targetNotZero, NumberRule, numberTooLarge, bytesAfter, operationOrder, operationsOrder, order, FirstAt}
+use Rattle.trace.proofs.Deciding.{Decided, accepts, tested, made-of, below, equal, one-of, at-most, is, free, neither, guarded, breaks}
+
+code-kept : (code : ℕ) → (codeBroken code ≡ false) ↔ ((1 ≤ code) × (code ≤ 8))
+code-kept code =
+    let both = neither (eqb code 0) (ltb 8 code) (eqb-false code 0, ne-eqb code 0) (at-most 8 code) in (
+      λ e. let kept = both .0 e in (omega (arith, kept .0), kept .1),
+      λ kept. let least = kept .0 in both .1 (λ none. absurd (omega arith), kept .1),
+    )
+
+last-three : (code : ℕ) → 6 ≤ code → code ≤ 8 → (code ≡ 6) ⊎ ((code ≡ 7) ⊎ (code ≡ 8))
+last-three code l h =
+    ⊎-elim (λ six. inl (sym six))
+    (λ above. inr (⊎-elim (λ seven. inl (sym seven)) (λ past. inr (omega arith)) (eq-or-lt-of-le above)))
+    (eq-or-lt-of-le l)
+
+target-kept : (code target : ℕ) → code ≤ 8 → (targetBroken code target ≡ false) ↔ TargetRule code target
+target-kept code target h =
+    let by-code = guarded (ltb code 6) false (not (eqb target 0)) (below code 6) free (is target 0) in (
+      λ e three. by-code .0 e .1 (λ low. ⊎-elim (λ q. absurd (omega arith)) (⊎-elim (λ q. absurd (omega arith)) (λ q. absurd (omega arith))) three),
+      λ kept. by-code .1 (λ low. tt, λ high. kept (last-three code (omega arith) h)),
+    )
+
+number-kept : (code number : ℕ) → (numberBroken code number ≡ false) ↔ NumberRule code number
+number-kept code number =
+    let none = one-of (eqb code 2) (eqb code 5 || eqb code 8) (equal code 2) (one-of (eqb code 5) (eqb code 8) (equal code 5) (equal code 8)) in
+    let by-code =
+    guarded (eqb code 2 || (eqb code 5 || eqb code 8)) (not (eqb number 0)) _ none (is number 0)
+    (guarded (eqb code 1) (ltb 255 number) _ (equal code 1) (at-most 255 number)
+    (guarded (eqb code 3) (ltb 1 number) false (equal code 3) (at-most 1 number) free)) in
+    let apart : (k : ℕ) → (k ≡ 2 → ⊥) → (k ≡ 5 → ⊥) → (k ≡ 8 → ⊥) → code ≡ k → (code ≡ 2) ⊎ ((code ≡ 5) ⊎ (code ≡ 8)) → ⊥
+    = λ k two five eight e. ⊎-elim (λ q. two (sym e ∙ q)) (⊎-elim (λ q. five (sym e ∙ q)) (λ q. eight (sym e ∙ q))) in (
+      λ e. let kept = by-code .0 e in (
+        kept .0,
+        λ one. kept .1 (apart 1 (omega arith) (omega arith) (omega arith) one) .0 one,
+        λ three. kept .1 (apart 3 (omega arith) (omega arith) (omega arith) three) .1 (λ one. absurd (omega arith)) .0 three,
+      ),
+      λ kept. by-code .1 (kept .0, λ other. (kept .1, λ not-one. (kept .2, λ not-three. tt))),
+    )
+
+operation-decided : (bytes : List ℕ) (i : ℕ) (rest : Judgement (List Operation)) (rows : List Row) (number place : ℕ) → Decided rest rows number place
+    → Decided (andThen (operationAt bytes i) (before rest)) (operationOrder bytes (placeOf i) ++ rows) number place
+unfolding operationAt
+operation-decided bytes i rest rows number place d =
+    let p = placeOf i in
+    let code = getD bytes p 0 in
+    let target = getD bytes (p + 1) 0 in
+    let given = numberAt bytes (p + 2) in
+    simp (of-pick (λ (j : Judgement Operation). andThen j (before rest)), of-pick (λ (r : Rule). andThen (judgedBy r p (operationOf code target given)) (before rest)))
+    (tested (ltb (length bytes) (p + 6)) (endsBefore bytes (p + 6)) _ _ number place (below (length bytes) (p + 6)) (λ there.
+    tested (codeBroken code) (unknownCode bytes p) _ _ number place (breaks (codeBroken code) (code-kept code)) (λ known.
+    tested (targetBroken code target) (targetNotZero bytes p) _ _ number place (breaks (targetBroken code target) (target-kept code target (code-kept code .0 known .1))) (λ t.
+    tested (numberBroken code given) (numberTooLarge bytes p) _ _ number place (breaks (numberBroken code given) (number-kept code given)) (λ n.
+    made-of rest (λ os. operationOf code target given ∷ os) rows number place d)))))
+
+operations-decided : (bytes : List ℕ) (i n number place : ℕ) → Decided (operationsFrom bytes i n) (operationsOrder bytes i n) number place
+operations-decided bytes i zero number place =
+    tested (ltb (placeOf i) (length bytes)) (bytesAfter bytes (placeOf i)) [] _ number place (below (placeOf i) (length bytes)) (λ none. accepts [] number place)
+operations-decided bytes i (suc n) number place =
+    operation-decided bytes i (operationsFrom bytes (suc i) n) (operationsOrder bytes (suc i) n) number place (operations-decided bytes (suc i) n number place)
+
+-- a number that is first there and then by its rule
+field-decided : {A : Type 0} (bytes : List ℕ) (at : ℕ) (r : Row) (broken : Bool) (rest : List Row) (after : Judgement A) (number place : ℕ)
+    → (broken ≡ true) ↔ r .condition → Decided after rest number place
+    → Decided (present bytes (at + 4) (ruled broken (r .number) (r .place) after)) (endsBefore bytes (at + 4) ∷ r ∷ rest) number place
+field-decided bytes at r broken rest after number place means others =
+    tested (ltb (length bytes) (at + 4)) (endsBefore bytes (at + 4)) _ _ number place (below (length bytes) (at + 4))
+    (λ there. tested broken r rest after number place means (λ kept. others))
+
+trace-decided : (bytes : List ℕ) (number place : ℕ) → Decided (readTrace bytes) (order bytes) number place
+unfolding readTrace readHead
+trace-decided bytes number place =
+    let at = numberAt bytes in
+    simp (of-pick (λ (j : Judgement Head). andThen j (afterHead bytes)))
+    (field-decided bytes 0 (settingsCount bytes) (not (eqb (at 0) 2)) _ _ number place (breaks _ (is (at 0) 2))
+    (field-decided bytes 4 (divisorZero bytes) (eqb (at 4) 0) _ _ number place (equal (at 4) 0)
+    (field-decided bytes 8 (modelAbove1 bytes) (ltb 1 (at 8)) _ _ number place (below 1 (at 8))
+    (field-decided bytes 12 (tooManyOperations bytes) (ltb 4096 (at 12)) _ _ number place (below 4096 (at 12))
+    (made-of (operationsFrom bytes 0 (at 12)) (traceOf (headOf bytes)) _ number place (operations-decided bytes 0 (at 12) number place))))))
+
+-- both directions, for all bytes, every number and every place
+pub trace-refused-exactly : (bytes : List ℕ) (number place : ℕ) → (readTrace bytes ≡ refusedAt number place) ↔ FirstAt (order bytes) number place
+trace-refused-exactly bytes number place = trace-decided bytes number place .exactly

@@ -1,0 +1,278 @@
+// The limits of a trace's form: each refusal number of a trace at its first and at its last possible place, the order of the tests, and the values that are
+// just sound. What is printed under a name is the replay of that trace; of the one with 4,096 operations only the end.
+use libc::STDOUT_FILENO;
+
+// The longest trace, and one byte more.
+const LONGEST: usize = 24592;
+
+// Divisor 12 on the 8253, or what a case is about.
+struct Settings {
+    count: u32,
+    divisor: u32,
+    model: u32,
+    operations: u32,
+}
+
+struct Operation {
+    code: u8,
+    target: u8,
+    number: u32,
+}
+
+fn put_byte(trace: &mut [u8; 24593], place: usize, byte: u8) {
+    if place < 24593 {
+        trace[place] = byte;
+    }
+}
+
+fn put_number(trace: &mut [u8; 24593], place: usize, number: u32) {
+    if place < LONGEST {
+        put_byte(trace, place, (number % 256) as u8);
+        put_byte(trace, place + 1, (number / 256 % 256) as u8);
+        put_byte(trace, place + 2, (number / 65536 % 256) as u8);
+        put_byte(trace, place + 3, (number / 16777216) as u8);
+    }
+}
+
+fn put_settings(trace: &mut [u8; 24593], s: Settings) {
+    put_number(trace, 0, s.count);
+    put_number(trace, 4, s.divisor);
+    put_number(trace, 8, s.model);
+    put_number(trace, 12, s.operations);
+}
+
+fn put_operation(trace: &mut [u8; 24593], index: u32, o: Operation) {
+    if index < 4096 {
+        let place = 16 + 6 * (index as usize);
+        put_byte(trace, place, o.code);
+        put_byte(trace, place + 1, o.target);
+        put_number(trace, place + 2, o.number);
+    }
+}
+
+// All operations read the command port.
+fn put_reads(trace: &mut [u8; 24593], number: u32) {
+    let mut k: u32 = 0;
+    while k < number {
+        put_operation(
+            trace,
+            k,
+            Operation {
+                code: 2,
+                target: 0x43,
+                number: 0,
+            },
+        );
+        k += 1;
+    }
+}
+
+fn say(text: &[u8]) {
+    io::write_all(STDOUT_FILENO, text);
+}
+
+// The last bytes of the replay, at most as many as are asked for.
+fn show_end(name: &[u8], trace: &[u8], most: usize) {
+    say(name);
+    say(b": ");
+    let mut output = [0u8; 196704];
+    let printed = runner::replay(trace, &mut output);
+    if printed <= 196704 {
+        if most < printed {
+            say(&output[printed - most..printed]);
+        } else {
+            say(&output[..printed]);
+        }
+    }
+}
+
+fn show(name: &[u8], trace: &[u8]) {
+    show_end(name, trace, 196704);
+}
+
+fn sound_settings(operations: u32) -> Settings {
+    Settings {
+        count: 2,
+        divisor: 12,
+        model: 0,
+        operations,
+    }
+}
+
+// No operation, and as many bytes as the case has.
+fn settings(name: &[u8], s: Settings, length: usize) {
+    let mut trace = [0u8; 24593];
+    put_settings(&mut trace, s);
+    if length <= 24593 {
+        show(name, &trace[..length]);
+    }
+}
+
+// One operation, and as many bytes as the case has.
+fn one(name: &[u8], o: Operation, length: usize) {
+    let mut trace = [0u8; 24593];
+    put_settings(&mut trace, sound_settings(1));
+    put_operation(&mut trace, 0, o);
+    if length <= 24593 {
+        show(name, &trace[..length]);
+    }
+}
+
+fn whole(name: &[u8], code: u8, target: u8, number: u32) {
+    one(
+        name,
+        Operation {
+            code,
+            target,
+            number,
+        },
+        22,
+    );
+}
+
+// 4,096 operations, the last of them the case's.
+fn last(name: &[u8], code: u8, target: u8, number: u32, length: usize) {
+    let mut trace = [0u8; 24593];
+    put_settings(&mut trace, sound_settings(4096));
+    put_reads(&mut trace, 4095);
+    put_operation(
+        &mut trace,
+        4095,
+        Operation {
+            code,
+            target,
+            number,
+        },
+    );
+    if length <= 24593 {
+        show_end(name, &trace[..length], 35);
+    }
+}
+
+fn heads() {
+    settings(b"empty", sound_settings(0), 0);
+    settings(b"three bytes", sound_settings(0), 3);
+    settings(
+        b"settings count 1",
+        Settings {
+            count: 1,
+            divisor: 12,
+            model: 0,
+            operations: 0,
+        },
+        16,
+    );
+    settings(
+        b"settings count 3, no more bytes",
+        Settings {
+            count: 3,
+            divisor: 12,
+            model: 0,
+            operations: 0,
+        },
+        4,
+    );
+    settings(b"no divisor", sound_settings(0), 4);
+    settings(
+        b"divisor 0",
+        Settings {
+            count: 2,
+            divisor: 0,
+            model: 2,
+            operations: 4097,
+        },
+        16,
+    );
+    settings(b"no model", sound_settings(0), 8);
+}
+
+fn more_heads() {
+    settings(
+        b"model 2",
+        Settings {
+            count: 2,
+            divisor: 1,
+            model: 2,
+            operations: 4097,
+        },
+        16,
+    );
+    settings(b"no operation count", sound_settings(0), 15);
+    settings(b"4,097 operations", sound_settings(4097), 16);
+    settings(b"4,096 operations, none there", sound_settings(4096), 16);
+    settings(b"no operation", sound_settings(0), 16);
+    settings(
+        b"no operation, 8254, largest divisor",
+        Settings {
+            count: 2,
+            divisor: 4294967295,
+            model: 1,
+            operations: 0,
+        },
+        16,
+    );
+    settings(b"no operation, a byte more", sound_settings(0), 17);
+}
+
+fn rules() {
+    whole(b"code 0", 0, 0x43, 0);
+    whole(b"code 9, target and number wrong for 8", 9, 1, 1);
+    whole(b"write, number 256", 1, 0x43, 256);
+    whole(b"read, number 1", 2, 0x43, 1);
+    whole(b"gate, number 2", 3, 0, 2);
+    whole(b"load cycle, number 1", 5, 0, 1);
+    whole(b"catch-up, target 1", 6, 1, 0);
+    whole(b"run, target 255", 7, 255, 0);
+    whole(b"reset, target 1 and number 1", 8, 1, 1);
+    whole(b"reset, number 16777216", 8, 0, 16777216);
+    one(
+        b"code 9, a byte missing",
+        Operation {
+            code: 9,
+            target: 0,
+            number: 0,
+        },
+        21,
+    );
+    one(
+        b"one operation, a byte more",
+        Operation {
+            code: 8,
+            target: 0,
+            number: 0,
+        },
+        23,
+    );
+}
+
+// Just sound, so that only the board refuses.
+fn when_run() {
+    whole(b"write, number 255", 1, 0x43, 255);
+    whole(b"write, port 255", 1, 255, 0);
+    whole(b"read, port 0", 2, 0, 0);
+    whole(b"gate, number 1", 3, 0, 1);
+    whole(b"gate, channel 255", 3, 255, 1);
+    whole(b"counts, number 65536", 4, 2, 65536);
+    whole(b"counts, number 4294967295", 4, 2, 4294967295);
+    whole(b"load cycle, channel 3", 5, 3, 0);
+    whole(b"catch-up, number 4294967295", 6, 0, 4294967295);
+    whole(b"run, number 0", 7, 0, 0);
+    whole(b"reset", 8, 0, 0);
+}
+
+fn last_places() {
+    last(b"4,096 operations", 2, 0x40, 0, LONGEST);
+    last(b"last code 9", 9, 0, 0, LONGEST);
+    last(b"last target 1", 6, 1, 0, LONGEST);
+    last(b"last number 2", 3, 0, 2, LONGEST);
+    last(b"last byte missing", 2, 0x40, 0, 24591);
+    last(b"a byte too many", 2, 0x40, 0, 24593);
+}
+
+fn main() {
+    heads();
+    more_heads();
+    rules();
+    when_run();
+    last_places();
+}
