@@ -20,11 +20,6 @@ abbrev pub linesFrom : Board → ℕ → List Operation → List ℕ
 linesFrom b index [] = []
 linesFrom b index (o ∷ os) = lineOfOutcome index (make b o) ++ linesFrom (make b o .board) (suc index) os
 
--- the operations of a sound judgement; of a fault none
-abbrev pub operationsOf : Judgement (List Operation) → List Operation
-operationsOf (refusedAt number place) = []
-operationsOf (sound os) = os
-
 -- "a head line, one line for each operation ..., and an end line with the operation count"
 abbrev pub printedTrace : Trace → List ℕ
 printedTrace t =

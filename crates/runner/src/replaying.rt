@@ -1,30 +1,17 @@
 // A trace's bytes in, the printed bytes out. Nothing is put before the whole trace is judged.
 use crate::running::lines;
+use crate::running::put_line;
 use board::Board;
-use line::Line;
 use trace::head::Head;
 use trace::head::Judged;
 ghost use mathlib.Core.Path.{_≡_};
-ghost use mathlib.Core.List.{List};
-ghost use Prim.Native.Nat.{ℕ, _≤_};
+ghost use Prim.Native.Nat.{_≤_};
 ghost use lib.ListN.{length};
-ghost use Rattle.line.specs.Line.{lineOf, longest};
 ghost use Rattle.text.specs.Put.{over, put, answered};
 ghost use Rattle.trace.specs.Judgement.{sound};
 ghost use Rattle.trace.specs.Trace.{operationsFrom, traceOf};
-ghost use Rattle.trace.specs.Answer.{soundness};
-ghost use Rattle.runner.specs.Printed.{operationsOf, printedTrace, printed};
-
-fn put_line(out: &mut [u8], place: usize, line: Line) -> usize
-    ensures { λ r. ⌜ ((text : List ℕ) → line ≡ lineOf text → answered r (now (out .exit)) ≡ put text (now (out .entry)) place) ⌝ }
-{
-    let text = line.bytes;
-    let len = line.len;
-    if 48 < len {
-        return place;
-    }
-    text::put(out, place, &text[..len])
-}
+ghost use Rattle.trace.specs.Answer.{soundness, operationsOf};
+ghost use Rattle.runner.specs.Printed.{printedTrace, printed};
 
 fn replay_sound(trace: &[u8], head: Head, out: &mut [u8; 196704]) -> usize
     requires { ⌜ soundness (operationsFrom (now trace) 0 (head .operations)) ≡ sound tt ⌝ }

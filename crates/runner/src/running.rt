@@ -1,20 +1,30 @@
 // The runner: one loop that owns the board. No function on its path takes or hands back a board.
 use board::Answer;
 use board::Board;
+use line::Line;
 use time::SystemTicks;
 use trace::operation::OperationJudged;
 use turn::finding::Turn;
 ghost use mathlib.Core.Path.{_≡_};
 ghost use Prim.Native.Nat.{_+_, _*_, _≤_};
-ghost use lib.ListN.{length};
+ghost use lib.ListN.{length, take};
 ghost use Rattle.board.specs.Answer.{replyOf};
 ghost use Rattle.line.specs.Line.{longest};
 ghost use Rattle.line.specs.Lines.{operationLine};
 ghost use Rattle.text.specs.Put.{put, answered};
 ghost use Rattle.trace.specs.Judgement.{sound};
 ghost use Rattle.trace.specs.Trace.{operationsFrom};
-ghost use Rattle.trace.specs.Answer.{soundness};
-ghost use Rattle.runner.specs.Printed.{operationsOf, linesFrom};
+ghost use Rattle.trace.specs.Answer.{soundness, operationsOf};
+ghost use Rattle.runner.specs.Printed.{linesFrom};
+
+pub(crate) fn put_line(out: &mut [u8], place: usize, line: Line) -> usize
+    requires { ⌜ line .len ≤ longest ⌝ }
+    ensures { λ r. ⌜ answered r (now (out .exit)) ≡ put (take (line .len) (line .bytes)) (now (out .entry)) place ⌝ }
+{
+    let bytes = line.bytes;
+    let len = line.len;
+    text::put(out, place, &bytes[..len])
+}
 
 // An operation's line, put behind those that are there.
 fn say(
@@ -28,9 +38,7 @@ fn say(
     ensures { λ r. ⌜ (answered r (now (out .exit)) ≡ put (operationLine index (replyOf answer) events (left .0)) (now (out .entry)) place) × (length (operationLine index (replyOf answer) events (left .0)) ≤ longest) ⌝ }
 {
     let line = line::operation_line(index, answer, events, left);
-    let text = line.bytes;
-    let len = line.len;
-    text::put(out, place, &text[..len])
+    put_line(out, place, line)
 }
 
 // The lines of the operations from the first index on, as many as are asked for.

@@ -53,10 +53,10 @@ operations-alike a b s i (suc n) h =
     simp (operation-alike a b s i (omega arith), operations-alike a b s (suc i) n (omega arith))
 
 -- a sound head says that there are at most 4,096 operations
-abbrev Few : Judgement Head → Type 0
+abbrev pub Few : Judgement Head → Type 0
 Few = OfSound (λ h. h .operations ≤ 4096)
 
-few : (bytes : List ℕ) → Few (readHead bytes)
+pub few : (bytes : List ℕ) → Few (readHead bytes)
 unfolding readHead
 few bytes =
     let number = numberAt bytes in

@@ -7,3 +7,5 @@ pub mod Enough
 pub mod Deciding
 pub mod Refusals
 pub mod Apart
+pub mod Sound
+pub mod Only

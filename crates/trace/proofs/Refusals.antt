@@ -22,7 +22,7 @@ use Rattle.trace.specs.Trace.{before, operationsFrom, traceOf, afterHead
 use Rattle.trace.specs.Refusals.{Row, endsBefore, settingsCount, divisorZero, modelAbove1, tooManyOperations, unknownCode, TargetRule, targetNotZero, NumberRule, numberTooLarge, bytesAfter, operationOrder, operationsOrder, order, FirstAt}
 use Rattle.trace.proofs.Deciding.{Decided, accepts, tested, made-of, below, equal, one-of, at-most, is, free, neither, guarded, breaks}
 
-code-kept : (code : ℕ) → (codeBroken code ≡ false) ↔ ((1 ≤ code) × (code ≤ 8))
+pub code-kept : (code : ℕ) → (codeBroken code ≡ false) ↔ ((1 ≤ code) × (code ≤ 8))
 code-kept code =
     let both = neither (eqb code 0) (ltb 8 code) (eqb-false code 0, ne-eqb code 0) (at-most 8 code) in (
       λ e. let kept = both .0 e in (omega (arith, kept .0), kept .1),
@@ -35,14 +35,14 @@ last-three code l h =
     (λ above. inr (⊎-elim (λ seven. inl (sym seven)) (λ past. inr (omega arith)) (eq-or-lt-of-le above)))
     (eq-or-lt-of-le l)
 
-target-kept : (code target : ℕ) → code ≤ 8 → (targetBroken code target ≡ false) ↔ TargetRule code target
+pub target-kept : (code target : ℕ) → code ≤ 8 → (targetBroken code target ≡ false) ↔ TargetRule code target
 target-kept code target h =
     let by-code = guarded (ltb code 6) false (not (eqb target 0)) (below code 6) free (is target 0) in (
       λ e three. by-code .0 e .1 (λ low. ⊎-elim (λ q. absurd (omega arith)) (⊎-elim (λ q. absurd (omega arith)) (λ q. absurd (omega arith))) three),
       λ kept. by-code .1 (λ low. tt, λ high. kept (last-three code (omega arith) h)),
     )
 
-number-kept : (code number : ℕ) → (numberBroken code number ≡ false) ↔ NumberRule code number
+pub number-kept : (code number : ℕ) → (numberBroken code number ≡ false) ↔ NumberRule code number
 number-kept code number =
     let none = one-of (eqb code 2) (eqb code 5 || eqb code 8) (equal code 2) (one-of (eqb code 5) (eqb code 8) (equal code 5) (equal code 8)) in
     let by-code =

@@ -1,7 +1,6 @@
 -- Document 01's number and place for each answer of the code, and what an answer says of a trace: the code holds no list of operations, it says how many
 -- there are and gives each by its index.
-use Prim.Native.Nat.{ℕ}
-use mathlib.Core.List.{List}
+use mathlib.Core.List.{List, []}
 use lib.ListN.{length}
 use Rattle.refusal.specs.Refusal.{refusalNumber}
 use Rattle.trace.specs.declared.Fault.{Fault}
@@ -41,3 +40,8 @@ headIn t = record { divisor = t .divisor; model = t .model; operations = length 
 
 abbrev pub summary : Judgement Trace → Judgement Head
 summary j = andThen j (λ t. sound (headIn t))
+
+-- the operations of a sound judgement; of a fault there are none
+abbrev pub operationsOf : Judgement (List Operation) → List Operation
+operationsOf (refusedAt number place) = []
+operationsOf (sound os) = os

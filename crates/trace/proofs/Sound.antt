@@ -1,0 +1,49 @@
+-- What a judgement without the list of operations says of the whole trace. Assumes nothing.
+use Prim.Native.Nat.{ℕ, _≤_}
+use mathlib.Core.Path.{_≡_, refl, sym, ap, subst, _∙_}
+use mathlib.Core.List.{List}
+use Rattle.trace.specs.declared.head.Head.{Head}
+use Rattle.trace.specs.declared.operation.Operation.{Operation}
+use Rattle.trace.specs.Judgement.{Judgement, refusedAt, sound, andThen}
+use Rattle.trace.specs.Head.{readHead}
+use Rattle.trace.specs.Trace.{Trace, operationsFrom, traceOf, readTrace}
+use Rattle.trace.specs.Answer.{soundness, summary, operationsOf}
+use Rattle.trace.proofs.Values.{OfSound, itself, through}
+use Rattle.trace.proofs.Turns.{in-turn}
+use Rattle.trace.proofs.Enough.{few}
+
+-- a trace that is sound to its end, with what its head says
+pub record SoundAs (bytes : List ℕ) (h : Head) : Type 0 where
+  pub not-too-many : h .operations ≤ 4096
+  pub all-sound : soundness (operationsFrom bytes 0 (h .operations)) ≡ sound tt
+  pub whole : readTrace bytes ≡ sound (traceOf h (operationsOf (operationsFrom bytes 0 (h .operations))))
+
+by-operations : (bytes : List ℕ) (h : Head) → readHead bytes ≡ sound h → h .operations ≤ 4096
+    → (j : Judgement (List Operation)) → operationsFrom bytes 0 (h .operations) ≡ j
+    → OfSound (SoundAs bytes) (andThen (soundness j) (λ u. sound h))
+unfolding readTrace
+by-operations bytes h head most (refusedAt number place) e = tt
+by-operations bytes h head most (sound os) e = record { not-too-many = most; all-sound = ap soundness e; whole = rw head (rw e refl) }
+
+pub judged-sound : (bytes : List ℕ) (h : Head) → summary (readTrace bytes) ≡ sound h → SoundAs bytes h
+judged-sound bytes h e =
+    let in-head : Head → Type 0 = λ d. readHead bytes ≡ sound d in
+    let after : Head → Judgement Head = λ d. andThen (soundness (operationsFrom bytes 0 (d .operations))) (λ u. sound d) in
+    subst (OfSound (SoundAs bytes)) (sym (in-turn bytes) ∙ e)
+    (through in-head (SoundAs bytes) (readHead bytes) after (itself (readHead bytes))
+    (λ d head. by-operations bytes d head (subst (OfSound (λ (g : Head). g .operations ≤ 4096)) head (few bytes)) (operationsFrom bytes 0 (d .operations)) refl))
+
+abbrev Refused : {A : Type 0} → Judgement A → Type 0
+Refused (refusedAt number place) = Unit
+Refused (sound value) = ⊥
+
+abbrev refusedAgain : {A B : Type 0} → Judgement A → Judgement B
+refusedAgain (refusedAt number place) = refusedAt number place
+refusedAgain (sound value) = refusedAt 0 0
+
+same-refusal : (j : Judgement Trace) (number place : ℕ) → summary j ≡ refusedAt number place → j ≡ refusedAt number place
+same-refusal (refusedAt n p) number place e = ap refusedAgain e
+same-refusal (sound t) number place e = absurd (subst Refused (sym e) tt)
+
+pub judged-refused : (bytes : List ℕ) (number place : ℕ) → summary (readTrace bytes) ≡ refusedAt number place → readTrace bytes ≡ refusedAt number place
+judged-refused bytes number place e = same-refusal (readTrace bytes) number place e
