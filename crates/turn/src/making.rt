@@ -39,7 +39,10 @@ pub fn make(b: Board, operation: Operation) -> Made
             let r = ports::set_channel_gate(b, channel as usize, level, &mut events, 0);
             with_events(r, events)
         }
-        Operation::Counts(channel, number) => with_events(b.counts(channel as usize, number), events),
+        Operation::Counts(channel, number) => with_events(
+            b.counts(channel as usize, number),
+            events,
+        ),
         Operation::LoadCycle(channel) => with_events(b.load_cycle(channel as usize), events),
         Operation::CatchUp(ticks) => with_events(clock::catch_up(b, ticks), events),
         Operation::Run(ticks) => with_events(clock::run(b, ticks), events),

@@ -1,0 +1,55 @@
+-- `turn::finding::turn_of` meets its contract. Assumes nothing.
+use borrow.Author.Needs.{needs}
+use Rattle.turn.proofs.Turn.{catch-up-turn, run-turn, reset-turn}
+use Rattle.turn.proofs.finding.turn_of.Statement.{statement}
+use Rattle.turn.proofs.finding.turn_of.Tie as tie
+
+returns : tie.Need-returns
+returns c = rw (c .before .before .operation .given .1) (c .write-turn .ensures)
+
+returns-2 : tie.Need-returns-2
+returns-2 c = rw (c .before .before .operation2 .given .1) (c .read-turn .ensures)
+
+returns-3 : tie.Need-returns-3
+returns-3 c = rw (c .before .before .operation3 .given .1) (c .gate-turn .ensures)
+
+returns-4 : tie.Need-returns-4
+returns-4 c = rw (c .before .before .operation4 .given .1) (c .counts-turn .ensures)
+
+returns-5 : tie.Need-returns-5
+returns-5 c = rw (c .before .before .operation5 .given .1) (c .load-cycle-turn .ensures)
+
+returns-6 : tie.Need-returns-6
+returns-6 c = rw (c .before .operation6 .given .1) (catch-up-turn _)
+
+returns-7 : tie.Need-returns-7
+returns-7 c = rw (c .before .operation7 .given .1) (run-turn _)
+
+returns-8 : tie.Need-returns-8
+returns-8 c = rw (c .enum-told .given .1) reset-turn
+
+pub turn-of-spec : {M : Type 1} → statement M
+turn-of-spec =
+    tie.close
+    (tie.spec
+    (λ c. search needs)
+    (λ c κs. search needs)
+    (λ c. search needs)
+    (λ c κs. search needs)
+    (λ c. search needs)
+    (λ c κs. search needs)
+    (λ c. search needs)
+    (λ c κs. search needs)
+    (λ c. search needs)
+    (λ c κs. search needs)
+    (λ c. search needs)
+    (λ c. search needs)
+    (λ c. search needs)
+    returns
+    returns-2
+    returns-3
+    returns-4
+    returns-5
+    returns-6
+    returns-7
+    returns-8)

@@ -1,0 +1,59 @@
+-- `turn::working::work_on` meets its contract. Assumes nothing.
+use borrow.Author.Needs.{needs}
+use Rattle.turn.proofs.working.work_on.Statement.{statement}
+use Rattle.turn.proofs.working.work_on.Tie as tie
+
+returns : tie.Need-returns
+returns c = simp (c .before .before .changed .ensures, c .before .before .before .before .write-byte .ensures, c .before .before .before .before .before .before .work .given .1)
+
+returns-2 : tie.Need-returns-2
+returns-2 c = simp (c .before .before .changed2 .ensures, c .before .before .before .before .latch-count .ensures, c .before .before .before .before .before .enum-told .given .1)
+
+returns-3 : tie.Need-returns-3
+returns-3 c = simp (c .before .before .changed3 .ensures, c .before .before .before .before .set-mode .ensures, c .before .before .before .before .before .before .work2 .given .1)
+
+returns-4 : tie.Need-returns-4
+returns-4 c = simp (c .before .before .changed4 .ensures, c .before .before .before .before .set-gate .ensures, c .before .before .before .before .before .before .work3 .given .1)
+
+returns-5 : tie.Need-returns-5
+returns-5 c = simp (c .before .read-byte .ensures, c .before .before .enum-told2 .given .1)
+
+returns-6 : tie.Need-returns-6
+returns-6 c = simp (c .counts .ensures, c .before .before .work4 .given .1)
+
+returns-7 : tie.Need-returns-7
+returns-7 c = simp (c .load-cycle .ensures, c .before .enum-told3 .given .1)
+
+pub work-on-spec : {M : Type 1} → statement M
+work-on-spec =
+    tie.close
+    (tie.spec
+    (λ c. search needs)
+    (λ c κs. search needs)
+    (λ c κs. search needs)
+    (λ c. search needs)
+    (λ c κs. search needs)
+    (λ c κs. search needs)
+    (λ c. search needs)
+    (λ c κs. search needs)
+    (λ c κs. search needs)
+    (λ c. search needs)
+    (λ c κs. search needs)
+    (λ c κs. search needs)
+    (λ c. search needs)
+    (λ c κs. search needs)
+    (λ c. search needs)
+    (λ c κs. search needs)
+    (λ c. search needs)
+    (λ c κs. search needs)
+    (λ c. search needs)
+    returns
+    (λ c. search needs)
+    returns-2
+    (λ c. search needs)
+    returns-3
+    (λ c. search needs)
+    returns-4
+    returns-5
+    returns-6
+    returns-7)
