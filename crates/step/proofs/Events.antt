@@ -40,7 +40,7 @@ use Rattle.gate.specs.Gate.{setGate}
 use Rattle.refusal.proofs.Apart.{refused-not}
 use Rattle.step.specs.Events.{NoEvent, OneEvent, Told, ToldBy}
 
-abbrev placeIn : Value → ℕ
+abbrev pub placeIn : Value → ℕ
 placeIn done = 0
 placeIn (newPlace p) = p
 placeIn (byte x) = 0

@@ -14,3 +14,4 @@ pub mod Kept
 pub mod Warp
 pub mod Numbers
 pub mod Listed
+pub mod Silent

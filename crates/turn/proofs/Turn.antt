@@ -1,4 +1,4 @@
--- A recorded operation is the turn that is found for it: on every board both come to the same outcome, and the turn's channel is one of the board's.
+-- The turn that is found for a recorded operation: on every board both come to the same outcome, and the turn's channel is one of the board's.
 -- Assumes nothing.
 use Prim.Native.Nat.{ℕ, _<_, _≤_}
 use mathlib.Core.Bool.{Bool, true, false, _||_}
@@ -41,10 +41,11 @@ use Rattle.turn.specs.declared.finding.Turn.{Turn}
 use Rattle.turn.specs.declared.finding.Turn.the-variants as turn
 use Rattle.turn.specs.Asked.{lent}
 use Rattle.turn.specs.Made.{make}
+use Rattle.turn.specs.Finding.{turnOf}
 use Rattle.turn.specs.Turn.{settledOn, changed, workedOn, timeAfter, timedOn, turned, OnBoard}
 
 abbrev pub Is : Operation → Turn → Type 0
-Is o t = ((b : Board) → make b o ≡ turned b t) × OnBoard t
+Is o t = (t ≡ turnOf o) × ((b : Board) → make b o ≡ turned b t) × OnBoard t
 
 -- a refused event leaves the channel's own record at its place, which is the board as it was
 placed : (b : Board) (n : ℕ) (c : Channel) (reply : Reply ℕ) (bytes : List ℕ)
@@ -68,25 +69,25 @@ timed b next defers (accepted made) = refl
 
 module _ (number : ℕ) where
   pub data-read : (n : ℕ) → portOf number ≡ port.Data n → Is (recorded.ReadPort number) (turn.OnChannel n work.Read)
-  unfolding make readPort
-  data-read n e = (λ b. rw e refl, data-below number n e)
+  unfolding turnOf make readPort
+  data-read n e = (rw e refl, λ b. rw e refl, data-below number n e)
 
   pub command-read : portOf number ≡ port.Command → Is (recorded.ReadPort number) (turn.Say (answer.Byte 0))
-  unfolding make readPort
-  command-read e = (λ b. rw e refl, tt)
+  unfolding turnOf make readPort
+  command-read e = (rw e refl, λ b. rw e refl, tt)
 
   pub unknown-read : portOf number ≡ port.Unknown → Is (recorded.ReadPort number) (turn.Say (answer.Refused refusal.PortUnknown))
-  unfolding make readPort
-  unknown-read e = (λ b. rw e refl, tt)
+  unfolding turnOf make readPort
+  unknown-read e = (rw e refl, λ b. rw e refl, tt)
 
   module _ (byte : ℕ) where
     pub data-write : (n : ℕ) → portOf number ≡ port.Data n → Is (recorded.WritePort number byte) (turn.OnChannel n (work.Write byte))
-    unfolding make writePort
-    data-write n e = (λ b. rw e (settled b n (writeByte (channelAt b n) byte (b .defer))), data-below number n e)
+    unfolding turnOf make writePort
+    data-write n e = (rw e refl, λ b. rw e (settled b n (writeByte (channelAt b n) byte (b .defer))), data-below number n e)
 
     pub unknown-write : portOf number ≡ port.Unknown → Is (recorded.WritePort number byte) (turn.Say (answer.Refused refusal.PortUnknown))
-    unfolding make writePort
-    unknown-write e = (λ b. rw e refl, tt)
+    unfolding turnOf make writePort
+    unknown-write e = (rw e refl, λ b. rw e refl, tt)
 
 command-port : portOf 0x43 ≡ port.Command
 unfolding portOf
@@ -95,61 +96,61 @@ command-port = refl
 module _ (byte : ℕ) where
   -- the command port has one number
   pub command-write : (number : ℕ) (t : Turn) → portOf number ≡ port.Command → Is (recorded.WritePort 0x43 byte) t → Is (recorded.WritePort number byte) t
-  unfolding make writePort
-  command-write number t e is = (λ b. rw (e ∙ sym command-port) (is .0 b), is .1)
+  unfolding turnOf make writePort
+  command-write number t e is = (rw (e ∙ sym command-port) (is .0), λ b. rw (e ∙ sym command-port) (is .1 b), is .2)
 
   pub nothing-turn : commandOf byte ≡ command.Nothing → Is (recorded.WritePort 0x43 byte) (turn.Say (answer.Place 0))
-  unfolding make writePort untouched placeEvent
-  nothing-turn e = (λ b. rw (command-port, e), tt)
+  unfolding turnOf make writePort untouched placeEvent
+  nothing-turn e = (rw (command-port, e), λ b. rw (command-port, e), tt)
 
   pub latch-turn : (n : ℕ) → byte < 256 → commandOf byte ≡ command.LatchCount n → Is (recorded.WritePort 0x43 byte) (turn.OnChannel n work.Latch)
-  unfolding make writePort
-  latch-turn n h e = (λ b. rw (command-port, e) (settled b n (latchCount (channelAt b n))), named-below byte h _ e)
+  unfolding turnOf make writePort
+  latch-turn n h e = (rw (command-port, e), λ b. rw (command-port, e) (settled b n (latchCount (channelAt b n))), named-below byte h _ e)
 
   pub mode-turn : (n : ℕ) (word : ControlWord) → byte < 256 → commandOf byte ≡ command.SetMode n word
       → Is (recorded.WritePort 0x43 byte) (turn.OnChannel n (work.SetMode word))
-  unfolding make writePort
-  mode-turn n word h e = (λ b. rw (command-port, e) (settled b n (setMode (channelAt b n) word (b .model))), named-below byte h _ e)
+  unfolding turnOf make writePort
+  mode-turn n word h e = (rw (command-port, e), λ b. rw (command-port, e) (settled b n (setMode (channelAt b n) word (b .model))), named-below byte h _ e)
 
 module _ (n : ℕ) (on : n ≤ 2) where
   pub gate-turn : (level : Bool) → Is (recorded.SetChannelGate n level) (turn.OnChannel n (work.SetGate level))
-  unfolding make setChannelGate
-  gate-turn level = (λ b. rw (le-ltb 2 n on) (settled b n (setGate (channelAt b n) level)), omega arith)
+  unfolding turnOf make setChannelGate
+  gate-turn level = (rw (le-ltb 2 n on) refl, λ b. rw (le-ltb 2 n on) (settled b n (setGate (channelAt b n) level)), omega arith)
 
   pub counts-turn : (number : ℕ) → number ≤ 65536 → Is (recorded.Counts n number) (turn.OnChannel n (work.Counts number))
-  unfolding make counts
-  counts-turn number few = (λ b. rw (le-ltb 2 n on, le-ltb 65536 number few), omega arith)
+  unfolding turnOf make counts
+  counts-turn number few = (rw (le-ltb 2 n on, le-ltb 65536 number few) refl, λ b. rw (le-ltb 2 n on, le-ltb 65536 number few), omega arith)
 
   pub too-many : (number : ℕ) → 65536 < number → Is (recorded.Counts n number) (turn.Say (answer.Refused refusal.TooManyCounts))
-  unfolding make counts
-  too-many number many = (λ b. rw (le-ltb 2 n on, lt-ltb 65536 number many), tt)
+  unfolding turnOf make counts
+  too-many number many = (rw (le-ltb 2 n on, lt-ltb 65536 number many) refl, λ b. rw (le-ltb 2 n on, lt-ltb 65536 number many), tt)
 
   pub load-cycle-turn : Is (recorded.LoadCycle n) (turn.OnChannel n work.LoadCycle)
-  unfolding make loadCycle
-  load-cycle-turn = (λ b. rw (le-ltb 2 n on), omega arith)
+  unfolding turnOf make loadCycle
+  load-cycle-turn = (rw (le-ltb 2 n on) refl, λ b. rw (le-ltb 2 n on), omega arith)
 
 -- refusal 2
 module _ (n : ℕ) (above : 2 < n) where
   pub gate-above : (level : Bool) → Is (recorded.SetChannelGate n level) (turn.Say (answer.Refused refusal.ChannelAbove2))
-  unfolding make setChannelGate
-  gate-above level = (λ b. rw (lt-ltb 2 n above), tt)
+  unfolding turnOf make setChannelGate
+  gate-above level = (rw (lt-ltb 2 n above) refl, λ b. rw (lt-ltb 2 n above), tt)
 
   pub counts-above : (number : ℕ) → Is (recorded.Counts n number) (turn.Say (answer.Refused refusal.ChannelAbove2))
-  unfolding make counts
-  counts-above number = (λ b. rw (lt-ltb 2 n above), tt)
+  unfolding turnOf make counts
+  counts-above number = (rw (lt-ltb 2 n above) refl, λ b. rw (lt-ltb 2 n above), tt)
 
   pub load-cycle-above : Is (recorded.LoadCycle n) (turn.Say (answer.Refused refusal.ChannelAbove2))
-  unfolding make loadCycle
-  load-cycle-above = (λ b. rw (lt-ltb 2 n above), tt)
+  unfolding turnOf make loadCycle
+  load-cycle-above = (rw (lt-ltb 2 n above) refl, λ b. rw (lt-ltb 2 n above), tt)
 
 pub catch-up-turn : (given : SystemTicks) → Is (recorded.CatchUp given) (turn.Elapse given given true)
-unfolding make catchUp
-catch-up-turn given = (λ b. timed b (given .0) true (elapsed b (given .0)), tt)
+unfolding turnOf make catchUp
+catch-up-turn given = (refl, λ b. timed b (given .0) true (elapsed b (given .0)), tt)
 
 pub run-turn : (given : SystemTicks) → Is (recorded.Run given) (turn.Elapse given (record { 0 = 0 }) false)
-unfolding make run
-run-turn given = (λ b. timed b 0 false (elapsed b (given .0)), tt)
+unfolding turnOf make run
+run-turn given = (refl, λ b. timed b 0 false (elapsed b (given .0)), tt)
 
 pub reset-turn : Is recorded.Reset turn.Reset
-unfolding make
-reset-turn = (λ b. refl, tt)
+unfolding turnOf make
+reset-turn = (refl, λ b. refl, tt)

@@ -1,3 +1,4 @@
 pub mod Asked
 pub mod Made
 pub mod Turn
+pub mod Finding

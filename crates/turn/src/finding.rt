@@ -11,6 +11,7 @@ ghost use mathlib.Core.Path.{_≡_};
 ghost use Rattle.board.specs.declared.Board.{Board};
 ghost use Rattle.trace.specs.declared.operation.Operation.the-variants as recorded;
 ghost use Rattle.turn.specs.Made.{make};
+ghost use Rattle.turn.specs.Finding.{turnOf};
 ghost use Rattle.turn.specs.Turn.{turned, OnBoard};
 
 // What is done to one channel.
@@ -42,7 +43,7 @@ fn refuse(refusal: Refusal) -> Turn
 
 // The command is opened as document 01 names it: a mode set carries its fields, a latch its channel, nothing returns early.
 fn command_turn(byte: u8) -> Turn
-    ensures { λ r. ⌜ ((b : Board) → make b (recorded.WritePort 0x43 byte) ≡ turned b r) × OnBoard r ⌝ }
+    ensures { λ r. ⌜ (r ≡ turnOf (recorded.WritePort 0x43 byte)) × ((b : Board) → make b (recorded.WritePort 0x43 byte) ≡ turned b r) × OnBoard r ⌝ }
 {
     let command = control::command_of(byte);
     let Command::SetMode(n, word) = command else {
@@ -55,7 +56,7 @@ fn command_turn(byte: u8) -> Turn
 }
 
 fn write_turn(port: u8, byte: u8) -> Turn
-    ensures { λ r. ⌜ ((b : Board) → make b (recorded.WritePort port byte) ≡ turned b r) × OnBoard r ⌝ }
+    ensures { λ r. ⌜ (r ≡ turnOf (recorded.WritePort port byte)) × ((b : Board) → make b (recorded.WritePort port byte) ≡ turned b r) × OnBoard r ⌝ }
 {
     let known = port_of(port as u16);
     match known {
@@ -66,7 +67,7 @@ fn write_turn(port: u8, byte: u8) -> Turn
 }
 
 fn read_turn(port: u8) -> Turn
-    ensures { λ r. ⌜ ((b : Board) → make b (recorded.ReadPort port) ≡ turned b r) × OnBoard r ⌝ }
+    ensures { λ r. ⌜ (r ≡ turnOf (recorded.ReadPort port)) × ((b : Board) → make b (recorded.ReadPort port) ≡ turned b r) × OnBoard r ⌝ }
 {
     let known = port_of(port as u16);
     match known {
@@ -77,7 +78,7 @@ fn read_turn(port: u8) -> Turn
 }
 
 fn gate_turn(channel: u8, level: bool) -> Turn
-    ensures { λ r. ⌜ ((b : Board) → make b (recorded.SetChannelGate channel level) ≡ turned b r) × OnBoard r ⌝ }
+    ensures { λ r. ⌜ (r ≡ turnOf (recorded.SetChannelGate channel level)) × ((b : Board) → make b (recorded.SetChannelGate channel level) ≡ turned b r) × OnBoard r ⌝ }
 {
     if 2 < channel {
         return refuse(Refusal::ChannelAbove2);
@@ -86,7 +87,7 @@ fn gate_turn(channel: u8, level: bool) -> Turn
 }
 
 fn counts_turn(channel: u8, number: u32) -> Turn
-    ensures { λ r. ⌜ ((b : Board) → make b (recorded.Counts channel number) ≡ turned b r) × OnBoard r ⌝ }
+    ensures { λ r. ⌜ (r ≡ turnOf (recorded.Counts channel number)) × ((b : Board) → make b (recorded.Counts channel number) ≡ turned b r) × OnBoard r ⌝ }
 {
     if 2 < channel {
         return refuse(Refusal::ChannelAbove2);
@@ -98,7 +99,7 @@ fn counts_turn(channel: u8, number: u32) -> Turn
 }
 
 fn load_cycle_turn(channel: u8) -> Turn
-    ensures { λ r. ⌜ ((b : Board) → make b (recorded.LoadCycle channel) ≡ turned b r) × OnBoard r ⌝ }
+    ensures { λ r. ⌜ (r ≡ turnOf (recorded.LoadCycle channel)) × ((b : Board) → make b (recorded.LoadCycle channel) ≡ turned b r) × OnBoard r ⌝ }
 {
     if 2 < channel {
         return refuse(Refusal::ChannelAbove2);
@@ -107,7 +108,7 @@ fn load_cycle_turn(channel: u8) -> Turn
 }
 
 pub fn turn_of(operation: Operation) -> Turn
-    ensures { λ r. ⌜ ((b : Board) → make b operation ≡ turned b r) × OnBoard r ⌝ }
+    ensures { λ r. ⌜ (r ≡ turnOf operation) × ((b : Board) → make b operation ≡ turned b r) × OnBoard r ⌝ }
 {
     match operation {
         Operation::WritePort(port, byte) => write_turn(port, byte),
