@@ -18,7 +18,7 @@ ghost use Rattle.trace.specs.Answer.{soundness, operationsOf};
 ghost use Rattle.runner.specs.Printed.{linesFrom};
 
 pub(crate) fn put_line(out: &mut [u8], place: usize, line: Line) -> usize
-    requires { ⌜ line .len ≤ longest ⌝ }
+    requires { ⌜ line .len ≤ length (line .bytes) ⌝ }
     ensures { λ r. ⌜ answered r (now (out .exit)) ≡ put (take (line .len) (line .bytes)) (now (out .entry)) place ⌝ }
 {
     let bytes = line.bytes;
