@@ -103,11 +103,15 @@ module _ (trace : List ℕ) (first number : ℕ) (all : soundness (operationsFro
       }
 
   pub ended : j ≡ number → place + longest * number ≤ length bytes
-      → (answered at out ≡ put (linesFrom start first (operationsOf (operationsFrom trace first number))) bytes place) × (at ≤ place + longest * number)
+      → (answered at out ≡ put (linesFrom start first (operationsOf (operationsFrom trace first number))) bytes place)
+      × (length (linesFrom start first (operationsOf (operationsFrom trace first number))) ≤ longest * number)
   ended e room =
       let os = operationsOf (operationsFrom trace first number) in
       let total = as-many-as trace first number all in
       let done : take j os ≡ os = take-all j os (omega arith) in
       let few = r .lines-short in
       let fits : place + length (linesFrom start first (take j os)) ≤ length bytes = omega (arith, few) in
-      (r .lines-are .so fits ∙ ap (λ (ops : List Operation). put (linesFrom start first ops) bytes place) done, omega (arith, wrote-place (r .lines-are) fits, few))
+      (
+        r .lines-are .so fits ∙ ap (λ (ops : List Operation). put (linesFrom start first ops) bytes place) done,
+        rw⁻¹ done (omega (arith, few)),
+      )

@@ -1,7 +1,8 @@
 -- Document 01, "Recorded traces": the whole of what the replay program prints, from the bytes that it reads.
-use Prim.Native.Nat.{ℕ, suc}
+use Prim.Native.Nat.{ℕ, suc, _≤_}
 use mathlib.Core.List.{List, [], _∷_, _++_}
-use lib.ListN.{length}
+use mathlib.Core.Path.{_≡_}
+use lib.ListN.{length, drop}
 use Rattle.trace.specs.declared.operation.Operation.{Operation}
 use Rattle.trace.specs.Judgement.{Judgement, refusedAt, sound}
 use Rattle.trace.specs.Trace.{Trace, readTrace}
@@ -33,3 +34,7 @@ printedJudgement (sound t) = printedTrace t
 -- "The replay program reads one trace from standard input"
 unfoldable pub printed : List ℕ → List ℕ
 printed bytes = printedJudgement (readTrace bytes)
+
+-- the text stands at the front of the lent bytes, its length is answered, and the bytes behind it are as they were
+abbrev pub Prints : List ℕ → List ℕ → ℕ → List ℕ → Type 0
+Prints text before number after = (number ≡ length text) × (after ≡ text ++ drop (length text) before) × (length text ≤ length before)

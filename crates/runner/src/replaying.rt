@@ -6,17 +6,15 @@ use trace::head::Head;
 use trace::head::Judged;
 ghost use mathlib.Core.Path.{_≡_};
 ghost use Prim.Native.Nat.{_≤_};
-ghost use lib.ListN.{length};
-ghost use Rattle.text.specs.Put.{over, put, answered};
 ghost use Rattle.trace.specs.Judgement.{sound};
 ghost use Rattle.trace.specs.Trace.{operationsFrom, traceOf};
 ghost use Rattle.trace.specs.Answer.{soundness, operationsOf};
-ghost use Rattle.runner.specs.Printed.{printedTrace, printed};
+ghost use Rattle.runner.specs.Printed.{printedTrace, printed, Prints};
 
 fn replay_sound(trace: &[u8], head: Head, out: &mut [u8; 196704]) -> usize
     requires { ⌜ soundness (operationsFrom (now trace) 0 (head .operations)) ≡ sound tt ⌝ }
     requires { ⌜ head .operations ≤ 4096 ⌝ }
-    ensures { λ r. ⌜ answered r (now (out .exit)) ≡ put (printedTrace (traceOf head (operationsOf (operationsFrom (now (trace .entry)) 0 (head .operations))))) (now (out .entry)) 0 ⌝ }
+    ensures { λ r. ⌜ Prints (printedTrace (traceOf head (operationsOf (operationsFrom (now (trace .entry)) 0 (head .operations))))) (now (out .entry)) r (now (out .exit)) ⌝ }
 {
     let model = head.model;
     let number = head.operations;
@@ -32,7 +30,7 @@ fn replay_sound(trace: &[u8], head: Head, out: &mut [u8; 196704]) -> usize
 // How many bytes are printed. They stand at the front; the rest stays as it was. There is room for every trace: 48 bytes for the head, for each of 4,096
 // operations and for the end.
 pub fn replay(trace: &[u8], out: &mut [u8; 196704]) -> usize
-    ensures { λ r. ⌜ (r ≡ length (printed (now (trace .entry)))) × (now (out .exit) ≡ over (printed (now (trace .entry))) (now (out .entry)) 0) ⌝ }
+    ensures { λ r. ⌜ Prints (printed (now (trace .entry))) (now (out .entry)) r (now (out .exit)) ⌝ }
 {
     let judged = trace::judge(trace);
     match judged {

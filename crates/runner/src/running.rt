@@ -53,7 +53,7 @@ pub(crate) fn lines(
     requires { ⌜ soundness (operationsFrom (now trace) first number) ≡ sound tt ⌝ }
     requires { ⌜ first + number ≤ 4096 ⌝ }
     requires { ⌜ place + longest * number ≤ length (now out) ⌝ }
-    ensures { λ r. ⌜ (answered r (now (out .exit)) ≡ put (linesFrom start first (operationsOf (operationsFrom (now (trace .entry)) first number))) (now (out .entry)) place) × (r ≤ place + longest * number) ⌝ }
+    ensures { λ r. ⌜ (answered r (now (out .exit)) ≡ put (linesFrom start first (operationsOf (operationsFrom (now (trace .entry)) first number))) (now (out .entry)) place) × (length (linesFrom start first (operationsOf (operationsFrom (now (trace .entry)) first number))) ≤ longest * number) ⌝ }
 {
     let mut b = start;
     let mut at = place;

@@ -1,54 +1,54 @@
+-- `runner::replaying::replay` meets its contract. Assumes nothing.
+use mathlib.Core.Path.{sym, ap, _∙_}
+use native.Mathlib.Omega.{arith}
+use denote.Ref.{now}
 use borrow.Author.Needs.{needs}
+use Rattle.refusal.specs.Refusal.{refusalNumber}
+use Rattle.line.specs.Lines.{faultLine}
+use Rattle.line.proofs.Back.{line-fits}
+use Rattle.text.proofs.Puts.{wrote}
+use Rattle.trace.specs.Answer.{headJudged}
+use Rattle.trace.proofs.Sound.{judged-sound, judged-refused}
+use Rattle.runner.specs.Printed.{printed}
+use Rattle.runner.proofs.Whole.{line-put, prints}
 use Rattle.runner.proofs.replaying.replay.Statement.{statement}
 use Rattle.runner.proofs.replaying.replay.Tie as tie
-use Rattle.runner.proofs.replaying.replay.Reads as reads
-use Rattle.runner.proofs.replaying.replay.Lts as lts
-use Rattle.line.proofs.fault_line.Reads as fault-line-reads
-use Rattle.runner.proofs.replaying.replay_sound.Reads as replay-sound-reads
-use Rattle.runner.proofs.running.put_line.Reads as put-line-reads
-use Rattle.trace.proofs.judge.Reads as judge-reads
 
--- src/replaying.rt:37:9
-judge-requires : tie.Need-judge-requires
-judge-requires c κs = search needs
-
--- src/replaying.rt:39:25
-enum-known-judged : tie.Need-enum-known-judged
-enum-known-judged c = search needs
-
--- src/replaying.rt:41:17
-fault-line-requires : tie.Need-fault-line-requires
-fault-line-requires c κs = search needs
-
--- src/replaying.rt:42:13
 put-line-requires : tie.Need-put-line-requires
-put-line-requires c κs = ?
+put-line-requires c κs = line-fits _ _ (c .before .fault-line .ensures .0)
 
--- src/replaying.rt:44:23
-enum-known-judged-2 : tie.Need-enum-known-judged-2
-enum-known-judged-2 c = search needs
-
--- src/replaying.rt:44:32
 replay-sound-requires : tie.Need-replay-sound-requires
-replay-sound-requires c κs = ?
+replay-sound-requires c κs =
+    let told = c .before .before .judged2 .given in
+    let whole = judged-sound _ _ (sym (c .before .before .before .before .judge .ensures) ∙ ap headJudged (told .1)) in
+    (whole .all-sound, whole .not-too-many)
 
--- src/replaying.rt:34:1
 returns : tie.Need-returns
-returns c = ?
+unfolding printed
+returns c =
+    let a = c .before .before .before .before .before .before .before .before .args in
+    let told = c .before .before .before .before .judged .given in
+    let fault = told .0 .0 in
+    let line = c .before .before .fault-line in
+    let text = faultLine (refusalNumber (fault .refusal)) (fault .place) in
+    rw (judged-refused (now (a .trace)) (refusalNumber (fault .refusal)) (fault .place) (sym (c .before .before .before .before .before .before .judge .ensures) ∙ ap headJudged (told .1)))
+    (prints (wrote text (now (a .out)) 0 _ _ (line-put _ text _ _ _ _ (line .ensures .0) (c .put-line .ensures))) (omega (arith, line .ensures .1)))
 
--- src/replaying.rt:34:1
 returns-2 : tie.Need-returns-2
-returns-2 c = ?
+unfolding printed
+returns-2 c =
+    let told = c .before .before .before .judged2 .given in
+    rw (judged-sound _ (told .0 .0) (sym (c .before .before .before .before .before .judge .ensures) ∙ ap headJudged (told .1)) .whole) (c .replay-sound .ensures)
 
 pub replay-spec : {M : Type 1} → statement M
 replay-spec =
     tie.close
     (tie.spec
-    judge-requires
-    enum-known-judged
-    fault-line-requires
+    (λ c κs. search needs)
+    (λ c. search needs)
+    (λ c κs. search needs)
     put-line-requires
-    enum-known-judged-2
+    (λ c. search needs)
     replay-sound-requires
     returns
     returns-2)

@@ -1,50 +1,66 @@
+-- `runner::replaying::replay_sound` meets its contract. Assumes nothing.
+use Prim.Native.Nat.{ℕ, _≤_}
+use mathlib.Core.Path.{_≡_, sym, ap, _∙_}
+use native.Mathlib.Omega.{arith}
+use denote.Ref.{now}
+use lib.ListN.{length, length-append}
 use borrow.Author.Needs.{needs}
+use Rattle.board.specs.Outcome.{Outcome}
+use Rattle.line.specs.Lines.{headLine, endLine}
+use Rattle.line.proofs.Back.{line-fits}
+use Rattle.text.proofs.Puts.{wrote, and-then, wrote-place, put-length}
+use Rattle.trace.specs.Trace.{operationsFrom}
+use Rattle.trace.specs.Answer.{operationsOf}
+use Rattle.runner.specs.Printed.{linesFrom}
+use Rattle.runner.proofs.Turns.{as-many-as}
+use Rattle.runner.proofs.Whole.{new-board, line-put, prints}
 use Rattle.runner.proofs.replaying.replay_sound.Statement.{statement}
 use Rattle.runner.proofs.replaying.replay_sound.Tie as tie
-use Rattle.runner.proofs.replaying.replay_sound.Reads as reads
-use Rattle.runner.proofs.replaying.replay_sound.Lts as lts
-use Rattle.board.proofs.Board.new.Reads as new-reads
-use Rattle.line.proofs.end_line.Reads as end-line-reads
-use Rattle.line.proofs.head_line.Reads as head-line-reads
-use Rattle.runner.proofs.running.lines.Reads as lines-reads
-use Rattle.runner.proofs.running.put_line.Reads as put-line-reads
 
--- src/replaying.rt:23:9
-new-requires : tie.Need-new-requires
-new-requires c κs = search needs
-
--- src/replaying.rt:25:9
-head-line-requires : tie.Need-head-line-requires
-head-line-requires c κs = search needs
-
--- src/replaying.rt:26:9
 put-line-requires : tie.Need-put-line-requires
-put-line-requires c κs = ?
+put-line-requires c κs = line-fits _ _ (c .before .head-line .ensures .0)
 
--- src/replaying.rt:27:5
 lines-requires : tie.Need-lines-requires
-lines-requires c κs = ?
+lines-requires c κs =
+    let start = c .before .before .before .before .before .before .before in
+    let out = now (start .args .out) in
+    let head = c .before .before .before .head-line in
+    let line = headLine (start .args .head .model) (start .args .head .divisor) in
+    let first = line-put _ line out 0 _ _ (head .ensures .0) (c .before .put-line .ensures) in
+    let same = put-length line out 0 _ _ first in
+    let place = wrote-place (wrote line out 0 _ _ first) (omega (arith, head .ensures .1)) in
+    (start .pre .0, (omega (arith, start .pre .1), omega (arith, start .pre .1, same, place, head .ensures .1)))
 
--- src/replaying.rt:28:9
-end-line-requires : tie.Need-end-line-requires
-end-line-requires c κs = search needs
-
--- src/replaying.rt:29:5
 put-line-requires-2 : tie.Need-put-line-requires-2
-put-line-requires-2 c κs = ?
+put-line-requires-2 c κs = line-fits _ _ (c .before .end-line .ensures .0)
 
--- src/replaying.rt:16:1
 returns : tie.Need-returns
-returns c = ?
+returns c =
+    let start = c .before .before .before .before .before .before .before .before .before .before .before in
+    let a = start .args in
+    let out = now (a .out) in
+    let operations = operationsOf (operationsFrom (now (a .trace)) 0 (a .head .operations)) in
+    let head = c .before .before .before .before .before .before .before .head-line in
+    let lines = c .before .before .before .lines in
+    let last = c .before .before .end-line in
+    let board = ap (λ (o : Outcome). o .board) (c .before .before .before .before .before .before .before .before .before .new .ensures) ∙ new-board (a .head .model) (a .head .divisor) in
+    let many = as-many-as (now (a .trace)) 0 (a .head .operations) (start .pre .0) in
+    let head-text = headLine (a .head .model) (a .head .divisor) in
+    let lines-text = linesFrom (c .before .before .before .before .before .before .before .before .before .new .result .board) 0 operations in
+    let end-text = endLine (a .head .operations) in
+    let first = wrote head-text out 0 _ _ (line-put _ head-text out 0 _ _ (head .ensures .0) (c .before .before .before .before .before .put-line .ensures)) in
+    let second = and-then first lines-text _ _ (lines .ensures .0) in
+    let third = and-then second end-text _ _ (line-put _ end-text _ _ _ _ (last .ensures .0) (c .put-line2 .ensures)) in
+    rw⁻¹ board (rw many (prints third (simp length-append (omega (arith, start .pre .1, head .ensures .1, lines .ensures .1, last .ensures .1)))))
 
 pub replay-sound-spec : {M : Type 1} → statement M
 replay-sound-spec =
     tie.close
     (tie.spec
-    new-requires
-    head-line-requires
+    (λ c κs. search needs)
+    (λ c κs. search needs)
     put-line-requires
     lines-requires
-    end-line-requires
+    (λ c κs. search needs)
     put-line-requires-2
     returns)

@@ -1,0 +1,40 @@
+-- What is printed of a whole trace: the lines behind one another stand at the front of the lent bytes. Assumes nothing.
+use Prim.Native.Nat.{ℕ, _≤_}
+use mathlib.Core.List.{List}
+use mathlib.Core.Path.{_≡_, refl, ap, _∙_}
+use native.Mathlib.Nat.{zero-add}
+use native.Mathlib.Omega.{arith}
+use lib.Dec.{eqb}
+use lib.ListN.{length, take}
+use Rattle.channel.specs.declared.PitType.{PitType}
+use Rattle.channel.proofs.Pick.{of-pick, pick-same}
+use Rattle.board.specs.declared.Board.{Board}
+use Rattle.board.specs.Outcome.{Outcome}
+use Rattle.board.specs.Making.{fresh, new}
+use Rattle.line.specs.declared.Line.{Line}
+use Rattle.line.specs.Line.{lineOf}
+use Rattle.line.proofs.Back.{line-back}
+use Rattle.text.specs.Put.{put, answered}
+use Rattle.text.proofs.Puts.{Wrote, put-fits}
+use Rattle.trace.proofs.Enough.{first-bytes-decide}
+use Rattle.runner.specs.Printed.{printedJudgement, printed, Prints}
+
+-- the board beside a refusal is the fresh one too
+pub new-board : (model : PitType) (divisor : ℕ) → new model divisor .board ≡ fresh model divisor
+unfolding new
+new-board model divisor = simp (of-pick (λ (o : Outcome). o .board), pick-same)
+
+-- a line that is put is its text put
+pub line-put : (line : Line) (text bytes : List ℕ) (place place₁ : ℕ) (bytes₁ : List ℕ) → line ≡ lineOf text
+    → answered place₁ bytes₁ ≡ put (take (line .len) (line .bytes)) bytes place → answered place₁ bytes₁ ≡ put text bytes place
+line-put line text bytes place place₁ bytes₁ is e = e ∙ ap (λ (t : List ℕ). put t bytes place) (line-back line text is)
+
+pub prints : {text bytes bytes₁ : List ℕ} {place₁ : ℕ} → Wrote text bytes 0 place₁ bytes₁ → length text ≤ length bytes → Prints text bytes place₁ bytes₁
+prints {text} {bytes} w fits =
+    let all = w .so (omega arith) ∙ put-fits text bytes 0 (omega arith) in
+    (ap (λ p. p .place) all ∙ zero-add (length text), ap (λ p. p .bytes) all ∙ simp (zero-add), fits)
+
+-- no byte past the first 24,593 counts, so what the program reads at most is enough
+pub first-bytes-print : (bytes : List ℕ) (n : ℕ) → 24593 ≤ n → printed (take n bytes) ≡ printed bytes
+unfolding printed
+first-bytes-print bytes n h = ap printedJudgement (first-bytes-decide bytes n h)
