@@ -110,8 +110,7 @@ module _ (trace : List ℕ) (first number : ℕ) (all : soundness (operationsFro
       let total = as-many-as trace first number all in
       let done : take j os ≡ os = take-all j os (omega arith) in
       let few = r .lines-short in
-      let fits : place + length (linesFrom start first (take j os)) ≤ length bytes = omega (arith, few) in
-      (
+      let fits : place + length (linesFrom start first (take j os)) ≤ length bytes = omega (arith, few) in (
         r .lines-are .so fits ∙ ap (λ (ops : List Operation). put (linesFrom start first ops) bytes place) done,
         rw⁻¹ done (omega (arith, few)),
       )

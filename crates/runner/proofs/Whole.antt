@@ -1,14 +1,14 @@
 -- What is printed of a whole trace: the lines behind one another stand at the front of the lent bytes. Assumes nothing.
 use Prim.Native.Nat.{ℕ, _≤_}
 use mathlib.Core.List.{List}
-use mathlib.Core.Path.{_≡_, refl, ap, _∙_}
+use mathlib.Core.Path.{_≡_, sym, ap, _∙_}
 use native.Mathlib.Nat.{zero-add}
 use native.Mathlib.Omega.{arith}
-use lib.Dec.{eqb}
-use lib.ListN.{length, take}
+use lib.ListN.{length, take, length-append}
+use lib.Seq.{length-take-le}
+use Rattle.io.specs.Counts.{Counts}
 use Rattle.channel.specs.declared.PitType.{PitType}
 use Rattle.channel.proofs.Pick.{of-pick, pick-same}
-use Rattle.board.specs.declared.Board.{Board}
 use Rattle.board.specs.Outcome.{Outcome}
 use Rattle.board.specs.Making.{fresh, new}
 use Rattle.line.specs.declared.Line.{Line}
@@ -33,6 +33,12 @@ pub prints : {text bytes bytes₁ : List ℕ} {place₁ : ℕ} → Wrote text by
 prints {text} {bytes} w fits =
     let all = w .so (omega arith) ∙ put-fits text bytes 0 (omega arith) in
     (ap (λ p. p .place) all ∙ zero-add (length text), ap (λ p. p .bytes) all ∙ simp (zero-add), fits)
+
+-- the printed bytes are some of the lent ones, in the words that a caller's `&out[..n]` asks for
+pub prints-counts : (text before : List ℕ) (number : ℕ) (after : List ℕ) → Prints text before number after → Counts number after
+prints-counts text before number after p =
+    let long : number ≤ length after = rw (p .0, p .1) (simp length-append (omega arith)) in
+    (long, sym (length-take-le number after long))
 
 -- no byte past the first 24,593 counts, so what the program reads at most is enough
 pub first-bytes-print : (bytes : List ℕ) (n : ℕ) → 24593 ≤ n → printed (take n bytes) ≡ printed bytes

@@ -6,6 +6,7 @@ use trace::head::Head;
 use trace::head::Judged;
 ghost use mathlib.Core.Path.{_≡_};
 ghost use Prim.Native.Nat.{_≤_};
+ghost use Rattle.io.specs.Counts.{Counts};
 ghost use Rattle.trace.specs.Judgement.{sound};
 ghost use Rattle.trace.specs.Trace.{operationsFrom, traceOf};
 ghost use Rattle.trace.specs.Answer.{soundness, operationsOf};
@@ -31,6 +32,7 @@ fn replay_sound(trace: &[u8], head: Head, out: &mut [u8; 196704]) -> usize
 // operations and for the end.
 pub fn replay(trace: &[u8], out: &mut [u8; 196704]) -> usize
     ensures { λ r. ⌜ Prints (printed (now (trace .entry))) (now (out .entry)) r (now (out .exit)) ⌝ }
+    ensures { λ r. ⌜ Counts r (now (out .exit)) ⌝ }
 {
     let judged = trace::judge(trace);
     match judged {

@@ -82,8 +82,15 @@ pub(crate) fn lines(
             Turn::Elapse(given, warp, defers) => {
                 let remainder = b.remainder;
                 let since = b.warp;
-                let elapsed =
-                    turn::elapse(given, warp, defers, b.divisor, remainder, since, b.defer);
+                let elapsed = turn::elapse(
+                    given,
+                    warp,
+                    defers,
+                    b.divisor,
+                    remainder,
+                    since,
+                    b.defer,
+                );
                 let left = elapsed.remainder;
                 let next = elapsed.warp;
                 b.remainder = left;

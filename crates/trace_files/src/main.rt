@@ -14,18 +14,20 @@ fn replay_file(name: &[u8]) {
     libc::close(fd);
     let mut output = [0u8; 196704];
     let printed = runner::replay(&input[..length], &mut output);
-    if printed <= 196704 {
-        io::write_all(STDOUT_FILENO, &output[..printed]);
-    }
+    io::write_all(STDOUT_FILENO, &output[..printed]);
+}
+
+fn replay_argument(i: usize) {
+    let mut name = io::buffer();
+    let length = os::arg(i, &mut name);
+    replay_file(&name[..length]);
 }
 
 fn main() {
     let count = os::arg_count();
     let mut i = 1;
     while i < count {
-        let mut name = io::buffer();
-        let length = os::arg(i, &mut name);
-        replay_file(&name[..length]);
+        replay_argument(i);
         i += 1;
     }
 }

@@ -19,13 +19,13 @@ struct Operation {
     number: u32,
 }
 
-fn put_byte(trace: &mut [u8; 24593], place: usize, byte: u8) {
-    if place < 24593 {
+fn put_byte(trace: &mut [u8], place: usize, byte: u8) {
+    if place < trace.len() {
         trace[place] = byte;
     }
 }
 
-fn put_number(trace: &mut [u8; 24593], place: usize, number: u32) {
+fn put_number(trace: &mut [u8], place: usize, number: u32) {
     if place < LONGEST {
         put_byte(trace, place, (number % 256) as u8);
         put_byte(trace, place + 1, (number / 256 % 256) as u8);
@@ -34,14 +34,14 @@ fn put_number(trace: &mut [u8; 24593], place: usize, number: u32) {
     }
 }
 
-fn put_settings(trace: &mut [u8; 24593], s: Settings) {
+fn put_settings(trace: &mut [u8], s: Settings) {
     put_number(trace, 0, s.count);
     put_number(trace, 4, s.divisor);
     put_number(trace, 8, s.model);
     put_number(trace, 12, s.operations);
 }
 
-fn put_operation(trace: &mut [u8; 24593], index: u32, o: Operation) {
+fn put_operation(trace: &mut [u8], index: u32, o: Operation) {
     if index < 4096 {
         let place = 16 + 6 * (index as usize);
         put_byte(trace, place, o.code);
@@ -51,7 +51,7 @@ fn put_operation(trace: &mut [u8; 24593], index: u32, o: Operation) {
 }
 
 // All operations read the command port.
-fn put_reads(trace: &mut [u8; 24593], number: u32) {
+fn put_reads(trace: &mut [u8], number: u32) {
     let mut k: u32 = 0;
     while k < number {
         put_operation(
@@ -71,13 +71,13 @@ fn say(text: &[u8]) {
     io::write_all(STDOUT_FILENO, text);
 }
 
-// The last bytes of the replay, at most as many as are asked for.
-fn show_end(name: &[u8], trace: &[u8], most: usize) {
+// The last bytes of the replay of so many bytes, at most as many as are asked for.
+fn show_end(name: &[u8], trace: &[u8], length: usize, most: usize) {
     say(name);
     say(b": ");
     let mut output = [0u8; 196704];
-    let printed = runner::replay(trace, &mut output);
-    if printed <= 196704 {
+    if length <= trace.len() {
+        let printed = runner::replay(&trace[0..length], &mut output);
         if most < printed {
             say(&output[printed - most..printed]);
         } else {
@@ -86,8 +86,8 @@ fn show_end(name: &[u8], trace: &[u8], most: usize) {
     }
 }
 
-fn show(name: &[u8], trace: &[u8]) {
-    show_end(name, trace, 196704);
+fn show(name: &[u8], trace: &[u8], length: usize) {
+    show_end(name, trace, length, 196704);
 }
 
 fn sound_settings(operations: u32) -> Settings {
@@ -100,12 +100,10 @@ fn sound_settings(operations: u32) -> Settings {
 }
 
 // No operation, and as many bytes as the case has.
-fn settings(name: &[u8], s: Settings, length: usize) {
+fn head(name: &[u8], s: Settings, length: usize) {
     let mut trace = [0u8; 24593];
     put_settings(&mut trace, s);
-    if length <= 24593 {
-        show(name, &trace[..length]);
-    }
+    show(name, &trace, length);
 }
 
 // One operation, and as many bytes as the case has.
@@ -113,9 +111,7 @@ fn one(name: &[u8], o: Operation, length: usize) {
     let mut trace = [0u8; 24593];
     put_settings(&mut trace, sound_settings(1));
     put_operation(&mut trace, 0, o);
-    if length <= 24593 {
-        show(name, &trace[..length]);
-    }
+    show(name, &trace, length);
 }
 
 fn whole(name: &[u8], code: u8, target: u8, number: u32) {
@@ -144,15 +140,13 @@ fn last(name: &[u8], code: u8, target: u8, number: u32, length: usize) {
             number,
         },
     );
-    if length <= 24593 {
-        show_end(name, &trace[..length], 35);
-    }
+    show_end(name, &trace, length, 35);
 }
 
 fn heads() {
-    settings(b"empty", sound_settings(0), 0);
-    settings(b"three bytes", sound_settings(0), 3);
-    settings(
+    head(b"empty", sound_settings(0), 0);
+    head(b"three bytes", sound_settings(0), 3);
+    head(
         b"settings count 1",
         Settings {
             count: 1,
@@ -162,7 +156,7 @@ fn heads() {
         },
         16,
     );
-    settings(
+    head(
         b"settings count 3, no more bytes",
         Settings {
             count: 3,
@@ -172,8 +166,8 @@ fn heads() {
         },
         4,
     );
-    settings(b"no divisor", sound_settings(0), 4);
-    settings(
+    head(b"no divisor", sound_settings(0), 4);
+    head(
         b"divisor 0",
         Settings {
             count: 2,
@@ -183,11 +177,11 @@ fn heads() {
         },
         16,
     );
-    settings(b"no model", sound_settings(0), 8);
+    head(b"no model", sound_settings(0), 8);
 }
 
 fn more_heads() {
-    settings(
+    head(
         b"model 2",
         Settings {
             count: 2,
@@ -197,11 +191,11 @@ fn more_heads() {
         },
         16,
     );
-    settings(b"no operation count", sound_settings(0), 15);
-    settings(b"4,097 operations", sound_settings(4097), 16);
-    settings(b"4,096 operations, none there", sound_settings(4096), 16);
-    settings(b"no operation", sound_settings(0), 16);
-    settings(
+    head(b"no operation count", sound_settings(0), 15);
+    head(b"4,097 operations", sound_settings(4097), 16);
+    head(b"4,096 operations, none there", sound_settings(4096), 16);
+    head(b"no operation", sound_settings(0), 16);
+    head(
         b"no operation, 8254, largest divisor",
         Settings {
             count: 2,
@@ -211,7 +205,7 @@ fn more_heads() {
         },
         16,
     );
-    settings(b"no operation, a byte more", sound_settings(0), 17);
+    head(b"no operation, a byte more", sound_settings(0), 17);
 }
 
 fn rules() {

@@ -11,7 +11,7 @@ fn sum(bytes: &[u8]) -> u64 {
     let mut total: u64 = 0;
     let mut i = 0;
     while i < bytes.len() {
-        total = (total + wide(bytes[i])) % 4294967296;
+        total = (total + wide(bytes[i]) % 256) % 4294967296;
         i += 1;
     }
     total
@@ -27,20 +27,20 @@ fn digest(prefix: &[u8]) {
     let printed = runner::replay(prefix, &mut output);
     say(b"", prefix.len() as u64);
     say(b" bytes print ", printed as u64);
-    if printed <= 196704 {
-        say(b", sum ", sum(&output[..printed]));
-    }
+    say(b", sum ", sum(&output[..printed]));
     io::write_all(STDOUT_FILENO, b"\n");
+}
+
+fn digests(trace: &[u8]) {
+    let mut n = 0;
+    while n <= trace.len() {
+        digest(&trace[0..n]);
+        n += 1;
+    }
 }
 
 fn main() {
     let mut input = io::buffer();
     let length = io::read_full(STDIN_FILENO, &mut input);
-    let mut n = 0;
-    while n <= length {
-        if n <= 4096 {
-            digest(&input[..n]);
-        }
-        n += 1;
-    }
+    digests(&input[..length]);
 }

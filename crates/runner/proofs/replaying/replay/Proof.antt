@@ -9,8 +9,8 @@ use Rattle.line.proofs.Back.{line-fits}
 use Rattle.text.proofs.Puts.{wrote}
 use Rattle.trace.specs.Answer.{headJudged}
 use Rattle.trace.proofs.Sound.{judged-sound, judged-refused}
-use Rattle.runner.specs.Printed.{printed}
-use Rattle.runner.proofs.Whole.{line-put, prints}
+use Rattle.runner.specs.Printed.{printed, Prints}
+use Rattle.runner.proofs.Whole.{line-put, prints, prints-counts}
 use Rattle.runner.proofs.replaying.replay.Statement.{statement}
 use Rattle.runner.proofs.replaying.replay.Tie as tie
 
@@ -31,14 +31,21 @@ returns c =
     let fault = told .0 .0 in
     let line = c .before .before .fault-line in
     let text = faultLine (refusalNumber (fault .refusal)) (fault .place) in
-    rw (judged-refused (now (a .trace)) (refusalNumber (fault .refusal)) (fault .place) (sym (c .before .before .before .before .before .before .judge .ensures) ∙ ap headJudged (told .1)))
-    (prints (wrote text (now (a .out)) 0 _ _ (line-put _ text _ _ _ _ (line .ensures .0) (c .put-line .ensures))) (omega (arith, line .ensures .1)))
+    let all = prints (wrote text (now (a .out)) 0 _ _ (line-put _ text _ _ _ _ (line .ensures .0) (c .put-line .ensures))) (omega (arith, line .ensures .1)) in (
+      rw (judged-refused (now (a .trace)) (refusalNumber (fault .refusal)) (fault .place) (sym (c .before .before .before .before .before .before .judge .ensures) ∙ ap headJudged (told .1)))
+          all,
+      prints-counts text (now (a .out)) _ _ all,
+    )
 
 returns-2 : tie.Need-returns-2
 unfolding printed
 returns-2 c =
+    let a = c .before .before .before .before .before .before .before .args in
     let told = c .before .before .before .judged2 .given in
-    rw (judged-sound _ (told .0 .0) (sym (c .before .before .before .before .before .judge .ensures) ∙ ap headJudged (told .1)) .whole) (c .replay-sound .ensures)
+    let said = c .replay-sound in
+    let all : Prints (printed (now (a .trace))) (now (a .out)) (said .result) (said .last .1 .1 .0) =
+    rw (judged-sound _ (told .0 .0) (sym (c .before .before .before .before .before .judge .ensures) ∙ ap headJudged (told .1)) .whole) (said .ensures) in
+    (all, prints-counts (printed (now (a .trace))) (now (a .out)) _ _ all)
 
 pub replay-spec : {M : Type 1} → statement M
 replay-spec =

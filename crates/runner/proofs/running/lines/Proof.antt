@@ -50,13 +50,13 @@ next t outcome comes at₁ out₁ said =
     let found = t .before .before .found .given in (
       omega (arith, h),
       goes-on (now (a .trace)) (a .first) (a .number) (start t .pre .0) (a .start) (now (a .out)) (a .place) (l .b) (l .at) (l .j) (l .out) (l .inv .1) h (found .0 .0)
-      (sym (t .before .before .before .before .operation-at .ensures) ∙ ap operationJudged (found .1))
-      outcome
-      (t .turn-of .ensures .1 (l .b) ∙ comes)
-      at₁
-      out₁
-      (said .0)
-      (said .1),
+          (sym (t .before .before .before .before .operation-at .ensures) ∙ ap operationJudged (found .1))
+          outcome
+          (t .turn-of .ensures .1 (l .b) ∙ comes)
+          at₁
+          out₁
+          (said .0)
+          (said .1),
     )
 
 less : (t : Turned) → start t .args .number - (turn t .loop .j + 1) < start t .args .number - turn t .loop .j

@@ -1,0 +1,28 @@
+-- `trace_prefixes::digests` is safe and ends. Assumes nothing.
+use Prim.Native.Nat.{_+_, _-_, _≤_}
+use lib.ListN.{length}
+use borrow.Author.Needs.{needs}
+use Rattle.trace_prefixes.proofs.digests.Statement.{statement}
+use Rattle.trace_prefixes.proofs.digests.Tie as tie
+
+abbrev Inv-loop : tie.InvT-loop
+Inv-loop trace n₀ n = n ≤ length trace + 1
+
+abbrev μ-loop : tie.MeasureT-loop
+μ-loop trace n₀ n = length trace + 1 - n
+
+pub digests-spec : {M : Type 1} → statement M
+digests-spec =
+    tie.close
+    (tie.spec
+    Inv-loop
+    μ-loop
+    (λ c. search needs)
+    (λ c. search needs)
+    (λ c. search needs)
+    (λ c. search needs)
+    (λ c κs. search needs)
+    (λ c. search needs)
+    (λ c. search needs)
+    (λ c. search needs)
+    (λ c. search needs))
