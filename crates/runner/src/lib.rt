@@ -1,8 +1,149 @@
-// The whole replay of a trace: from its bytes to the bytes that are printed.
+// The whole replay of a trace: from its bytes to the bytes that are printed. Nothing is put before the whole trace is judged.
 //
-// running.rt owns the board and changes it where it stands, operation by operation; replaying.rt judges the trace first and puts the head and the end
-// around the operations' lines.
-mod replaying;
-mod running;
+// `lines` is the runner: one loop that owns the board and changes it where it stands. No function on its path takes or hands back a board.
+use board::Answer;
+use board::Board;
+use line::Line;
+use time::SystemTicks;
+use trace::head::Head;
+use trace::head::Judged;
+use trace::operation::OperationJudged;
+use turn::finding::Turn;
+ghost use mathlib.Core.Path.{_≡_};
+ghost use Prim.Native.Nat.{_+_, _*_, _≤_};
+ghost use lib.ListN.{length, take};
+ghost use Rattle.board.specs.Answer.{replyOf};
+ghost use Rattle.line.specs.Line.{longest};
+ghost use Rattle.line.specs.Lines.{operationLine};
+ghost use Rattle.text.specs.Put.{put, answered};
+ghost use Rattle.trace.specs.Judgement.{sound};
+ghost use Rattle.trace.specs.Trace.{operationsFrom, traceOf};
+ghost use Rattle.trace.specs.Answer.{soundness, operationsOf};
+ghost use Rattle.runner.specs.Printed.{linesFrom, printedTrace, printed, Prints};
+ghost use Rattle.io.specs.Counts.{Counts};
 
-pub use replaying::replay;
+fn put_line(out: &mut [u8], place: usize, line: Line) -> usize
+    requires { ⌜ line .len ≤ length (line .bytes) ⌝ }
+    ensures { λ r. ⌜ answered r (now (out .exit)) ≡ put (take (line .len) (line .bytes)) (now (out .entry)) place ⌝ }
+{
+    let bytes = line.bytes;
+    let len = line.len;
+    text::put(out, place, &bytes[..len])
+}
+
+// An operation's line, put behind those that are there.
+fn say(
+    out: &mut [u8],
+    place: usize,
+    index: u32,
+    answer: Answer,
+    events: [u8; 2],
+    left: SystemTicks,
+) -> usize
+    ensures { λ r. ⌜ (answered r (now (out .exit)) ≡ put (operationLine index (replyOf answer) events (left .0)) (now (out .entry)) place) × (length (operationLine index (replyOf answer) events (left .0)) ≤ longest) ⌝ }
+{
+    let line = line::operation_line(index, answer, events, left);
+    put_line(out, place, line)
+}
+
+// The lines of the operations from the first index on, as many as are asked for.
+fn lines(trace: &[u8], start: Board, first: u32, number: u32, out: &mut [u8], place: usize) -> usize
+    requires { ⌜ soundness (operationsFrom (now trace) first number) ≡ sound tt ⌝ }
+    requires { ⌜ first + number ≤ 4096 ⌝ }
+    requires { ⌜ place + longest * number ≤ length (now out) ⌝ }
+    ensures { λ r. ⌜ (answered r (now (out .exit)) ≡ put (linesFrom start first (operationsOf (operationsFrom (now (trace .entry)) first number))) (now (out .entry)) place) × (length (linesFrom start first (operationsOf (operationsFrom (now (trace .entry)) first number))) ≤ longest * number) ⌝ }
+{
+    let mut b = start;
+    let mut at = place;
+    let mut j: u32 = 0;
+    while j < number {
+        let index = first + j;
+        let found = trace::operation_at(trace, index);
+        let OperationJudged::Sound(operation) = found else {
+            return at;
+        };
+        j += 1;
+        let turn = turn::turn_of(operation);
+        let mut events = [0u8; 2];
+        match turn {
+            Turn::OnChannel(n, work) => {
+                let i = n as usize;
+                let c = b.channels[i];
+                let model = b.model;
+                let worked = turn::work_on(c, n, work, model, b.defer, &mut events);
+                let next = worked.channel;
+                b.channels[i] = next;
+                let answer = worked.answer;
+                let left = b.remainder;
+                at = say(out, at, index, answer, events, left);
+            }
+            Turn::Elapse(given, warp, defers) => {
+                let remainder = b.remainder;
+                let since = b.warp;
+                let elapsed = turn::elapse(
+                    given,
+                    warp,
+                    defers,
+                    b.divisor,
+                    remainder,
+                    since,
+                    b.defer,
+                );
+                let left = elapsed.remainder;
+                let next = elapsed.warp;
+                b.remainder = left;
+                b.warp = next;
+                b.defer = elapsed.defer;
+                let answer = elapsed.answer;
+                at = say(out, at, index, answer, events, left);
+            }
+            Turn::Reset => {
+                let c0 = b.channels[0];
+                let c1 = b.channels[1];
+                let c2 = b.channels[2];
+                let channels = [c0.reset(), c1.reset(), c2.reset()];
+                b.channels = channels;
+                let left = b.remainder;
+                at = say(out, at, index, Answer::Done, events, left);
+            }
+            Turn::Say(answer) => {
+                let left = b.remainder;
+                at = say(out, at, index, answer, events, left);
+            }
+        }
+    }
+    at
+}
+
+fn replay_sound(trace: &[u8], head: Head, out: &mut [u8; 196704]) -> usize
+    requires { ⌜ soundness (operationsFrom (now trace) 0 (head .operations)) ≡ sound tt ⌝ }
+    requires { ⌜ head .operations ≤ 4096 ⌝ }
+    ensures { λ r. ⌜ Prints (printedTrace (traceOf head (operationsOf (operationsFrom (now (trace .entry)) 0 (head .operations))))) (now (out .entry)) r (now (out .exit)) ⌝ }
+{
+    let model = head.model;
+    let number = head.operations;
+    let made = Board::new(model, head.divisor);
+    let board = made.board;
+    let first = line::head_line(model, head.divisor);
+    let mut place = put_line(out, 0, first);
+    place = lines(trace, board, 0, number, out, place);
+    let last = line::end_line(number);
+    put_line(out, place, last)
+}
+
+// How many bytes are printed. They stand at the front; the rest stays as it was. There is room for every trace: 48 bytes for the head, for each of 4,096
+// operations and for the end.
+pub fn replay(trace: &[u8], out: &mut [u8; 196704]) -> usize
+    ensures { λ r. ⌜ Prints (printed (now (trace .entry))) (now (out .entry)) r (now (out .exit)) ⌝ }
+    ensures { λ r. ⌜ Counts r (now (out .exit)) ⌝ }
+{
+    let judged = trace::judge(trace);
+    match judged {
+        Judged::Refused(fault) => {
+            let refusal = fault.refusal;
+            let line = line::fault_line(refusal, fault.place);
+            put_line(out, 0, line)
+        }
+        Judged::Sound(head) => replay_sound(trace, head, out),
+    }
+}

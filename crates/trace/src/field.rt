@@ -1,14 +1,24 @@
-// A number in the bytes, the low byte first.
+// A number in the bytes, the low byte first. What is past the end reads as 0; callers have looked that nothing is.
 ghost use mathlib.Core.Path.{_≡_};
-ghost use Prim.Native.Nat.{_+_, _≤_};
-ghost use lib.ListN.{length};
+ghost use lib.ListN.{getD};
 ghost use Rattle.trace.specs.Number.{numberAt};
 
+fn byte_at(bytes: &[u8], place: usize) -> u8
+    ensures { λ r. ⌜ r ≡ getD (now (bytes .entry)) place 0 ⌝ }
+{
+    if place < bytes.len() {
+        return bytes[place];
+    }
+    0
+}
+
 pub(crate) fn number_at(bytes: &[u8], place: usize) -> u32
-    requires { ⌜ place + 4 ≤ length (now bytes) ⌝ }
     ensures { λ r. ⌜ r ≡ numberAt (now (bytes .entry)) place ⌝ }
 {
-    let low = numbers::word(bytes[place], bytes[place + 1]);
-    let high = numbers::word(bytes[place + 2], bytes[place + 3]);
+    if bytes.len() <= place {
+        return 0;
+    }
+    let low = numbers::word(byte_at(bytes, place), byte_at(bytes, place + 1));
+    let high = numbers::word(byte_at(bytes, place + 2), byte_at(bytes, place + 3));
     numbers::long(low, high)
 }

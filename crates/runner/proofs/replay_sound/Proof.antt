@@ -1,4 +1,4 @@
--- `runner::replaying::replay_sound` meets its contract. Assumes nothing.
+-- `runner::replay_sound` meets its contract. Assumes nothing.
 use Prim.Native.Nat.{ℕ, _≤_}
 use mathlib.Core.Path.{_≡_, sym, ap, _∙_}
 use native.Mathlib.Omega.{arith}
@@ -14,8 +14,8 @@ use Rattle.trace.specs.Answer.{operationsOf}
 use Rattle.runner.specs.Printed.{linesFrom}
 use Rattle.runner.proofs.Turns.{as-many-as}
 use Rattle.runner.proofs.Whole.{new-board, line-put, prints}
-use Rattle.runner.proofs.replaying.replay_sound.Statement.{statement}
-use Rattle.runner.proofs.replaying.replay_sound.Tie as tie
+use Rattle.runner.proofs.replay_sound.Statement.{statement}
+use Rattle.runner.proofs.replay_sound.Tie as tie
 
 put-line-requires : tie.Need-put-line-requires
 put-line-requires c κs = line-fits _ _ (c .before .head-line .ensures .0)

@@ -1,4 +1,4 @@
--- `runner::replaying::replay` meets its contract. Assumes nothing.
+-- `runner::replay` meets its contract. Assumes nothing.
 use mathlib.Core.Path.{sym, ap, _∙_}
 use native.Mathlib.Omega.{arith}
 use denote.Ref.{now}
@@ -11,8 +11,8 @@ use Rattle.trace.specs.Answer.{headJudged}
 use Rattle.trace.proofs.Sound.{judged-sound, judged-refused}
 use Rattle.runner.specs.Printed.{printed, Prints}
 use Rattle.runner.proofs.Whole.{line-put, prints, prints-counts}
-use Rattle.runner.proofs.replaying.replay.Statement.{statement}
-use Rattle.runner.proofs.replaying.replay.Tie as tie
+use Rattle.runner.proofs.replay.Statement.{statement}
+use Rattle.runner.proofs.replay.Tie as tie
 
 put-line-requires : tie.Need-put-line-requires
 put-line-requires c κs = line-fits _ _ (c .before .fault-line .ensures .0)

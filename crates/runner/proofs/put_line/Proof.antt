@@ -1,9 +1,9 @@
--- `runner::running::put_line` meets its contract. Assumes nothing.
+-- `runner::put_line` meets its contract. Assumes nothing.
 use mathlib.Core.Path.{sym}
 use lib.Seq.{length-take-le}
 use borrow.Author.Needs.{needs}
-use Rattle.runner.proofs.running.put_line.Statement.{statement}
-use Rattle.runner.proofs.running.put_line.Tie as tie
+use Rattle.runner.proofs.put_line.Statement.{statement}
+use Rattle.runner.proofs.put_line.Tie as tie
 
 array-share-prefix-bytes : tie.Need-array-share-prefix-bytes
 array-share-prefix-bytes c = c .before .before .before .pre

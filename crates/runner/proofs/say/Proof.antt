@@ -1,4 +1,4 @@
--- `runner::running::say` meets its contract. Assumes nothing.
+-- `runner::say` meets its contract. Assumes nothing.
 use mathlib.Core.Path.{ap, _∙_}
 use mathlib.Core.List.{List}
 use Prim.Native.Nat.{ℕ}
@@ -6,8 +6,8 @@ use denote.Ref.{now}
 use borrow.Author.Needs.{needs}
 use Rattle.text.specs.Put.{put}
 use Rattle.line.proofs.Back.{line-fits, line-back}
-use Rattle.runner.proofs.running.say.Statement.{statement}
-use Rattle.runner.proofs.running.say.Tie as tie
+use Rattle.runner.proofs.say.Statement.{statement}
+use Rattle.runner.proofs.say.Tie as tie
 
 put-line-requires : tie.Need-put-line-requires
 put-line-requires c κs = line-fits _ _ (c .before .operation-line .ensures .0)

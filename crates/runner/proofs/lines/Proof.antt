@@ -1,4 +1,4 @@
--- `runner::running::lines` meets its contract. Assumes nothing.
+-- `runner::lines` meets its contract. Assumes nothing.
 use Prim.Native.Nat.{ℕ, _+_, _-_, _≤_, _<_}
 use mathlib.Core.List.{List}
 use mathlib.Core.Path.{_≡_, refl, sym, ap, subst, _∙_}
@@ -16,8 +16,8 @@ use Rattle.trace.specs.Answer.{operationJudged, operationsOf}
 use Rattle.turn.specs.Turn.{workedOn, timedOn, turned, OnBoard}
 use Rattle.runner.specs.Printed.{lineOfOutcome}
 use Rattle.runner.proofs.Turns.{Running, begun, goes-on, ended, no-fault}
-use Rattle.runner.proofs.running.lines.Statement.{statement}
-use Rattle.runner.proofs.running.lines.Tie as tie
+use Rattle.runner.proofs.lines.Statement.{statement}
+use Rattle.runner.proofs.lines.Tie as tie
 
 abbrev Inv-loop : tie.InvT-loop
 Inv-loop trace first number out₀ place b₀ at₀ j₀ out b at j =
