@@ -6,7 +6,7 @@ use native.Mathlib.Omega.{arith}
 use lib.ListN.{length, take, replicate, length-append}
 use lib.Seq.{take-append-seam}
 use Rattle.line.specs.declared.Line.{Line}
-use Rattle.line.specs.Line.{longest, lineOf}
+use Rattle.line.specs.Line.{lineRoom, lineOf}
 
 pub line-fits : (line : Line) (text : List ℕ) → line ≡ lineOf text → line .len ≤ length (line .bytes)
 unfolding lineOf
@@ -14,4 +14,4 @@ line-fits line text e = rw e (simp length-append (omega arith))
 
 pub line-back : (line : Line) (text : List ℕ) → line ≡ lineOf text → take (line .len) (line .bytes) ≡ text
 unfolding lineOf
-line-back line text e = rw e (take-append-seam text (replicate (longest - length text) 0))
+line-back line text e = rw e (take-append-seam text (replicate (lineRoom - length text) 0))

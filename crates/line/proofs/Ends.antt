@@ -8,7 +8,7 @@ use native.Mathlib.Omega.{arith}
 use lib.ListN.{length, drop, replicate}
 use Rattle.text.specs.Put.{put, answered}
 use Rattle.text.proofs.Puts.{Wrote, put-fits}
-use Rattle.line.specs.Line.{lineOf, longest}
+use Rattle.line.specs.Line.{lineOf, lineRoom}
 
 pub answer-text : {text bytes bytes₁ : List ℕ} {place place₁ : ℕ} → Wrote text bytes place place₁ bytes₁
     → place + 32 ≤ length bytes → length text ≤ 32
@@ -20,9 +20,9 @@ drop-replicate zero n x = simp unary-clauses
 drop-replicate (suc k) zero x = let none : 0 - suc k ≡ 0 = omega arith in simp none
 drop-replicate (suc k) (suc n) x = simp unary-clauses (drop-replicate k n x)
 
-pub line-text : {text bytes : List ℕ} {place : ℕ} → Wrote text (replicate longest 0) 0 place bytes → length text ≤ longest
-    → (record { bytes = bytes; len = place } ≡ lineOf text) × (length text ≤ longest)
+pub line-text : {text bytes : List ℕ} {place : ℕ} → Wrote text (replicate lineRoom 0) 0 place bytes → length text ≤ lineRoom
+    → (record { bytes = bytes; len = place } ≡ lineOf text) × (length text ≤ lineRoom)
 unfolding lineOf
 line-text {text} w short =
-    let all = w .so (omega arith) ∙ put-fits text (replicate longest 0) 0 (omega arith) in
-    (ap (λ p. record { bytes = p .bytes; len = p .place }) all ∙ simp (zero-add, drop-replicate (length text) longest 0), short)
+    let all = w .so (omega arith) ∙ put-fits text (replicate lineRoom 0) 0 (omega arith) in
+    (ap (λ p. record { bytes = p .bytes; len = p .place }) all ∙ simp (zero-add, drop-replicate (length text) lineRoom 0), short)

@@ -4,9 +4,10 @@ use mathlib.Core.List.{List, _++_}
 use lib.ListN.{length, replicate}
 use Rattle.line.specs.declared.Line.{Line}
 
--- more than any line of a replay needs
-abbrev pub longest : ℕ
-longest = 48
+-- room for every line: an operation's has at most 44 bytes, whatever its index, a fault's at most 41
+abbrev pub lineRoom : ℕ
+lineRoom = 48
 
+-- the text, then zeros up to the room
 unfoldable pub lineOf : List ℕ → Line
-lineOf text = record { bytes = text ++ replicate (longest - length text) 0; len = length text }
+lineOf text = record { bytes = text ++ replicate (lineRoom - length text) 0; len = length text }

@@ -16,6 +16,7 @@ use Rattle.text.specs.Number.{decimal, hex}
 abbrev pub newline : List ℕ
 newline = ascii "\n"
 
+-- "(0 8253, 1 8254)"
 abbrev pub modelName : PitType → List ℕ
 modelName Model8253 = ascii "8253"
 modelName Model8254 = ascii "8254"
@@ -40,6 +41,7 @@ ticksText number left = ascii "ticks " ++ decimal number ++ ascii " left " ++ de
 abbrev pub outText : List ℕ → List ℕ
 outText events = ascii "out " ++ decimal (getD events 0 0) ++ ascii " " ++ decimal (getD events 1 0)
 
+-- "else `ok`"
 abbrev pub okText : List ℕ
 okText = ascii "ok"
 
@@ -56,6 +58,7 @@ valueText (retriggers answer) events left = okText
 valueText (dirtyMarks dirty counting ticked) events left = okText
 valueText (timerAccum number) events left = okText
 
+-- "`refused N`; or" what an accepted operation says
 abbrev pub answerText : Reply Value → List ℕ → ℕ → List ℕ
 answerText (refused number) events left = refusedText number
 answerText (accepted value) events left = valueText value events left

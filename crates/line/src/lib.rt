@@ -8,7 +8,7 @@ ghost use mathlib.Core.Path.{_≡_};
 ghost use Prim.Native.Nat.{_≤_};
 ghost use lib.ListN.{length};
 ghost use Rattle.refusal.specs.Refusal.{refusalNumber};
-ghost use Rattle.line.specs.Line.{lineOf, longest};
+ghost use Rattle.line.specs.Line.{lineOf, lineRoom};
 ghost use Rattle.line.specs.Lines.{modelName, headLine, endLine, faultLine};
 
 // Bytes of a line and then zeros; the line ends at len.
@@ -27,7 +27,7 @@ fn model_name(model: PitType) -> [u8; 4]
 }
 
 pub fn head_line(model: PitType, divisor: u32) -> Line
-    ensures { λ r. ⌜ (r ≡ lineOf (headLine model divisor)) × (length (headLine model divisor) ≤ longest) ⌝ }
+    ensures { λ r. ⌜ (r ≡ lineOf (headLine model divisor)) × (length (headLine model divisor) ≤ lineRoom) ⌝ }
 {
     let mut bytes = [0u8; 48];
     let name = model_name(model);
@@ -40,7 +40,7 @@ pub fn head_line(model: PitType, divisor: u32) -> Line
 }
 
 pub fn end_line(number: u32) -> Line
-    ensures { λ r. ⌜ (r ≡ lineOf (endLine number)) × (length (endLine number) ≤ longest) ⌝ }
+    ensures { λ r. ⌜ (r ≡ lineOf (endLine number)) × (length (endLine number) ≤ lineRoom) ⌝ }
 {
     let mut bytes = [0u8; 48];
     let mut place = text::put(&mut bytes, 0, b"end ");
@@ -50,7 +50,7 @@ pub fn end_line(number: u32) -> Line
 }
 
 pub fn fault_line(refusal: Refusal, at: usize) -> Line
-    ensures { λ r. ⌜ (r ≡ lineOf (faultLine (refusalNumber refusal) at)) × (length (faultLine (refusalNumber refusal) at) ≤ longest) ⌝ }
+    ensures { λ r. ⌜ (r ≡ lineOf (faultLine (refusalNumber refusal) at)) × (length (faultLine (refusalNumber refusal) at) ≤ lineRoom) ⌝ }
 {
     let mut bytes = [0u8; 48];
     let mut place = text::put(&mut bytes, 0, b"trace refused ");

@@ -8,7 +8,7 @@ ghost use Prim.Native.Nat.{_+_, _≤_};
 ghost use lib.ListN.{length};
 ghost use Rattle.board.specs.Answer.{replyOf};
 ghost use Rattle.text.specs.Put.{put, answered};
-ghost use Rattle.line.specs.Line.{lineOf, longest};
+ghost use Rattle.line.specs.Line.{lineOf, lineRoom};
 ghost use Rattle.line.specs.Lines.{refusedText, readText, ticksText, outText, okText, answerText, operationLine};
 
 fn put_refused(out: &mut [u8], place: usize, number: u8) -> usize
@@ -84,7 +84,7 @@ fn put_answer(
 
 // The events are the two bytes that were lent, as the operation left them; left is the remainder after it.
 pub fn operation_line(index: u32, answer: Answer, events: [u8; 2], left: SystemTicks) -> Line
-    ensures { λ r. ⌜ (r ≡ lineOf (operationLine index (replyOf answer) events (left .0))) × (length (operationLine index (replyOf answer) events (left .0)) ≤ longest) ⌝ }
+    ensures { λ r. ⌜ (r ≡ lineOf (operationLine index (replyOf answer) events (left .0))) × (length (operationLine index (replyOf answer) events (left .0)) ≤ lineRoom) ⌝ }
 {
     let mut bytes = [0u8; 48];
     let mut place = text::put_decimal(&mut bytes, 0, index as u64);

@@ -9,7 +9,7 @@ use lib.ListN.{length, getD, take, length-append, take-append-drop}
 use lib.Seq.{take-suc, take-all, length-take-le}
 use Rattle.board.specs.declared.Board.{Board}
 use Rattle.board.specs.Outcome.{Outcome}
-use Rattle.line.specs.Line.{longest}
+use Rattle.line.specs.Line.{lineRoom}
 use Rattle.text.specs.Put.{put, answered}
 use Rattle.text.proofs.Puts.{Wrote, and-then, wrote-place, put-fits, put-length}
 use Rattle.trace.specs.declared.operation.Operation.{Operation}
@@ -67,7 +67,7 @@ module _ (trace : List ℕ) (first number : ℕ) (all : soundness (operationsFro
 pub record Running (start : Board) (first : ℕ) (os : List Operation) (bytes : List ℕ) (place : ℕ) (b : Board) (at j : ℕ) (out : List ℕ) : Type 0 where
   pub board-is : b ≡ makeAll start (take j os)
   pub lines-are : Wrote (linesFrom start first (take j os)) bytes place at out
-  pub lines-short : length (linesFrom start first (take j os)) ≤ longest * j
+  pub lines-short : length (linesFrom start first (take j os)) ≤ lineRoom * j
   pub same-length : length out ≡ length bytes
 
 pub begun : (start : Board) (first : ℕ) (os : List Operation) (bytes : List ℕ) (place : ℕ) → Running start first os bytes place start place 0 bytes
@@ -82,7 +82,7 @@ begun start first os bytes place =
 -- one operation more: its outcome, and its line put behind the others
 module _ (trace : List ℕ) (first number : ℕ) (all : soundness (operationsFrom trace first number) ≡ sound tt) (start : Board) (bytes : List ℕ) (place : ℕ) (b : Board) (at j : ℕ) (out : List ℕ) (r : Running start first (operationsOf (operationsFrom trace first number)) bytes place b at j out) where
   pub goes-on : j < number → (o : Operation) → operationAt trace (first + j) ≡ sound o → (outcome : Outcome) → make b o ≡ outcome
-      → (at₁ : ℕ) (out₁ : List ℕ) → answered at₁ out₁ ≡ put (lineOfOutcome (first + j) outcome) out at → length (lineOfOutcome (first + j) outcome) ≤ longest
+      → (at₁ : ℕ) (out₁ : List ℕ) → answered at₁ out₁ ≡ put (lineOfOutcome (first + j) outcome) out at → length (lineOfOutcome (first + j) outcome) ≤ lineRoom
       → Running start first (operationsOf (operationsFrom trace first number)) bytes place (outcome .board) at₁ (j + 1) out₁
   goes-on h o e outcome made at₁ out₁ said few =
       let os = operationsOf (operationsFrom trace first number) in
@@ -102,9 +102,9 @@ module _ (trace : List ℕ) (first number : ℕ) (all : soundness (operationsFro
         same-length = put-length line out at at₁ out₁ said ∙ r .same-length;
       }
 
-  pub ended : j ≡ number → place + longest * number ≤ length bytes
+  pub ended : j ≡ number → place + lineRoom * number ≤ length bytes
       → (answered at out ≡ put (linesFrom start first (operationsOf (operationsFrom trace first number))) bytes place)
-      × (length (linesFrom start first (operationsOf (operationsFrom trace first number))) ≤ longest * number)
+      × (length (linesFrom start first (operationsOf (operationsFrom trace first number))) ≤ lineRoom * number)
   ended e room =
       let os = operationsOf (operationsFrom trace first number) in
       let total = as-many-as trace first number all in

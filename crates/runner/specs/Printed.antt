@@ -12,7 +12,7 @@ use Rattle.board.specs.Making.{fresh}
 use Rattle.line.specs.Lines.{headLine, operationLine, endLine, faultLine}
 use Rattle.turn.specs.Made.{make}
 
--- "one line for each operation (its index, then ...)", M the new remainder
+-- "one line for each operation (its index, then ...)"; what is `left` is the remainder after the operation
 abbrev pub lineOfOutcome : ℕ → Outcome → List ℕ
 lineOfOutcome index o = operationLine index (o .reply) (o .events) (o .board .remainder .0)
 

@@ -1,6 +1,7 @@
 // The whole replay of a trace: from its bytes to the bytes that are printed. Nothing is put before the whole trace is judged.
 //
-// `lines` is the runner: one loop that owns the board and changes it where it stands. No function on its path takes or hands back a board.
+// `lines` is the runner: one loop that owns the board and changes it where it stands. No function that the loop calls takes or hands back a board, and each arm ends
+// in its own `say`: arms that meet would have the board moved.
 use board::Answer;
 use board::Board;
 use line::Line;
@@ -13,7 +14,7 @@ ghost use mathlib.Core.Path.{_≡_};
 ghost use Prim.Native.Nat.{_+_, _*_, _≤_};
 ghost use lib.ListN.{length, take};
 ghost use Rattle.board.specs.Answer.{replyOf};
-ghost use Rattle.line.specs.Line.{longest};
+ghost use Rattle.line.specs.Line.{lineRoom};
 ghost use Rattle.line.specs.Lines.{operationLine};
 ghost use Rattle.text.specs.Put.{put, answered};
 ghost use Rattle.trace.specs.Judgement.{sound};
@@ -40,18 +41,18 @@ fn say(
     events: [u8; 2],
     left: SystemTicks,
 ) -> usize
-    ensures { λ r. ⌜ (answered r (now (out .exit)) ≡ put (operationLine index (replyOf answer) events (left .0)) (now (out .entry)) place) × (length (operationLine index (replyOf answer) events (left .0)) ≤ longest) ⌝ }
+    ensures { λ r. ⌜ (answered r (now (out .exit)) ≡ put (operationLine index (replyOf answer) events (left .0)) (now (out .entry)) place) × (length (operationLine index (replyOf answer) events (left .0)) ≤ lineRoom) ⌝ }
 {
     let line = line::operation_line(index, answer, events, left);
     put_line(out, place, line)
 }
 
-// The lines of the operations from the first index on, as many as are asked for.
+// The lines of the operations from the first index on, as many as are asked for. A replay from the start begins at 0; one from a later board will not.
 fn lines(trace: &[u8], start: Board, first: u32, number: u32, out: &mut [u8], place: usize) -> usize
     requires { ⌜ soundness (operationsFrom (now trace) first number) ≡ sound tt ⌝ }
     requires { ⌜ first + number ≤ 4096 ⌝ }
-    requires { ⌜ place + longest * number ≤ length (now out) ⌝ }
-    ensures { λ r. ⌜ (answered r (now (out .exit)) ≡ put (linesFrom start first (operationsOf (operationsFrom (now (trace .entry)) first number))) (now (out .entry)) place) × (length (linesFrom start first (operationsOf (operationsFrom (now (trace .entry)) first number))) ≤ longest * number) ⌝ }
+    requires { ⌜ place + lineRoom * number ≤ length (now out) ⌝ }
+    ensures { λ r. ⌜ (answered r (now (out .exit)) ≡ put (linesFrom start first (operationsOf (operationsFrom (now (trace .entry)) first number))) (now (out .entry)) place) × (length (linesFrom start first (operationsOf (operationsFrom (now (trace .entry)) first number))) ≤ lineRoom * number) ⌝ }
 {
     let mut b = start;
     let mut at = place;

@@ -13,7 +13,7 @@ abbrev pub decimalTo : ℕ → ℕ → List ℕ
 decimalTo zero n = digit n ∷ []
 decimalTo (suc limit) n = cond (ltb n 10) (digit n ∷ []) (decimalTo limit (n / 10) ++ digit (n % 10) ∷ [])
 
--- the greatest number of 64 bits has 20 digits
+-- of a number below ten to the power of 20: the greatest of 64 bits has 20 digits
 unfoldable pub decimal : ℕ → List ℕ
 decimal n = decimalTo 19 n
 

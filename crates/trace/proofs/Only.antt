@@ -24,14 +24,9 @@ use Rattle.trace.specs.Rule.{codeBroken, targetBroken, numberBroken}
 use Rattle.trace.specs.Operation.{operationOf, judgedBy, placeOf, operationAt}
 use Rattle.trace.specs.Trace.{Trace, before, operationsFrom, traceOf, afterHead, readTrace}
 use Rattle.trace.specs.Refusals.{TargetRule, NumberRule}
-use Rattle.trace.specs.Bytes.{six, operationBytes, operationsBytes, modelNumber, traceBytes, Holds, AllHold, Writable}
+use Rattle.trace.specs.Bytes.{AllBytes, six, operationBytes, operationsBytes, modelNumber, traceBytes, Holds, AllHold, Writable}
 use Rattle.trace.proofs.Values.{OfSound, through}
 use Rattle.trace.proofs.Refusals.{code-kept, target-kept, number-kept}
-
--- every number of the list is a byte
-abbrev pub AllBytes : List ℕ → Type 0
-AllBytes [] = Unit
-AllBytes (x ∷ xs) = (x < 256) × AllBytes xs
 
 byte-at : (bytes : List ℕ) → AllBytes bytes → (p : ℕ) → getD bytes p 0 < 256
 byte-at [] all p = omega arith

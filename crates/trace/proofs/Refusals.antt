@@ -19,7 +19,7 @@ use Rattle.trace.specs.Head.{headOf, readHead}
 use Rattle.trace.specs.Rule.{codeBroken, targetBroken, numberBroken}
 use Rattle.trace.specs.Operation.{placeOf, operationOf, operationAt, judgedBy}
 use Rattle.trace.specs.Trace.{before, operationsFrom, traceOf, afterHead, readTrace}
-use Rattle.trace.specs.Refusals.{Row, endsBefore, settingsCount, divisorZero, modelAbove1, tooManyOperations, unknownCode, TargetRule, targetNotZero, NumberRule, numberTooLarge, bytesAfter, operationOrder, operationsOrder, order, FirstAt}
+use Rattle.trace.specs.Refusals.{Row, endsBefore, settingsCount, divisorZero, modelAbove1, tooManyOperations, unknownCode, TargetRule, targetNotZero, NumberRule, numberBreaksRule, bytesAfter, operationOrder, operationsOrder, order, FirstAt}
 use Rattle.trace.proofs.Deciding.{Decided, accepts, tested, made-of, below, equal, one-of, at-most, is, free, neither, guarded, breaks}
 
 pub code-kept : (code : ℕ) → (codeBroken code ≡ false) ↔ ((1 ≤ code) × (code ≤ 8))
@@ -71,7 +71,7 @@ operation-decided bytes i rest rows number place d =
     (tested (ltb (length bytes) (p + 6)) (endsBefore bytes (p + 6)) _ _ number place (below (length bytes) (p + 6)) (λ there.
     tested (codeBroken code) (unknownCode bytes p) _ _ number place (breaks (codeBroken code) (code-kept code)) (λ known.
     tested (targetBroken code target) (targetNotZero bytes p) _ _ number place (breaks (targetBroken code target) (target-kept code target (code-kept code .0 known .1))) (λ t.
-    tested (numberBroken code given) (numberTooLarge bytes p) _ _ number place (breaks (numberBroken code given) (number-kept code given)) (λ n.
+    tested (numberBroken code given) (numberBreaksRule bytes p) _ _ number place (breaks (numberBroken code given) (number-kept code given)) (λ n.
     made-of rest (λ os. operationOf code target given ∷ os) rows number place d)))))
 
 operations-decided : (bytes : List ℕ) (i n number place : ℕ) → Decided (operationsFrom bytes i n) (operationsOrder bytes i n) number place

@@ -15,17 +15,21 @@ use Rattle.trace.specs.declared.judging.Found.the-variants as found
 use Rattle.trace.specs.Judgement.{Judgement, refusedAt, sound, andThen}
 use Rattle.trace.specs.Trace.{Trace}
 
+-- "its number" and "P" of a fault
 abbrev pub fault : {A : Type 0} → Fault → Judgement A
 fault f = refusedAt (refusalNumber (f .refusal)) (f .place)
 
+-- what `read_head` and `judge` answer
 abbrev pub headJudged : Judged → Judgement Head
 headJudged (judged.Sound h) = sound h
 headJudged (judged.Refused f) = fault f
 
+-- what `operation_at` answers
 abbrev pub operationJudged : OperationJudged → Judgement Operation
 operationJudged (operation.Sound o) = sound o
 operationJudged (operation.Refused f) = fault f
 
+-- whether the reader's later parts found a fault
 abbrev pub faultJudged : Found → Judgement Unit
 faultJudged (found.Fault f) = fault f
 faultJudged found.None = sound tt
@@ -38,6 +42,7 @@ soundness j = andThen j (λ value. sound tt)
 abbrev pub headIn : Trace → Head
 headIn t = record { divisor = t .divisor; model = t .model; operations = length (t .operations) }
 
+-- .. or the fault
 abbrev pub summary : Judgement Trace → Judgement Head
 summary j = andThen j (λ t. sound (headIn t))
 

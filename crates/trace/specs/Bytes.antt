@@ -10,6 +10,11 @@ use Rattle.trace.specs.declared.operation.Operation.{Operation}
 use Rattle.trace.specs.declared.operation.Operation.the-variants.{WritePort, ReadPort, SetChannelGate, Counts, LoadCycle, CatchUp, Run, Reset}
 use Rattle.trace.specs.Trace.{Trace}
 
+-- every number of a list is a byte. What a program reads is: its type says so
+abbrev pub AllBytes : List ℕ → Type 0
+AllBytes [] = Unit
+AllBytes (x ∷ xs) = (x < 256) × AllBytes xs
+
 -- "operations of six bytes: code, target, number."
 abbrev pub six : ℕ → ℕ → ℕ → List ℕ
 six code target number = code ∷ target ∷ fourBytes number
@@ -25,6 +30,7 @@ operationBytes (CatchUp given) = six 6 0 (given .0)
 operationBytes (Run given) = six 7 0 (given .0)
 operationBytes Reset = six 8 0 0
 
+-- one operation after another
 abbrev pub operationsBytes : List Operation → List ℕ
 operationsBytes [] = []
 operationsBytes (o ∷ os) = operationBytes o ++ operationsBytes os
@@ -51,6 +57,7 @@ Holds (CatchUp given) = given .0 < 4294967296
 Holds (Run given) = given .0 < 4294967296
 Holds Reset = Unit
 
+-- .. of every operation of a list
 abbrev pub AllHold : List Operation → Type 0
 AllHold [] = Unit
 AllHold (o ∷ os) = Holds o × AllHold os

@@ -17,6 +17,7 @@ modelOf number = cond (eqb number 0) Model8253 Model8254
 abbrev pub field : {A : Type 0} → List ℕ → ℕ → (ℕ → Bool) → ℕ → Judgement A → Judgement A
 field bytes place broken number after = present bytes (place + 4) (ruled (broken (numberAt bytes place)) number place after)
 
+-- "count 2, then divisor and model", then the "operation count"
 abbrev pub headOf : List ℕ → Head
 headOf bytes = record { divisor = numberAt bytes 4; model = modelOf (numberAt bytes 8); operations = numberAt bytes 12 }
 

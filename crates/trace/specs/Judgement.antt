@@ -6,6 +6,7 @@ use mathlib.Core.List.{List}
 use lib.Dec.{ltb}
 use lib.ListN.{length}
 
+-- refused by a number at a place, or sound, with what was read
 pub data Judgement (A : Type 0) : Type 0 where
   refusedAt : (number place : ℕ) → Judgement A
   sound : A → Judgement A

@@ -50,8 +50,8 @@ abbrev pub NumberRule : ℕ → ℕ → Type 0
 NumberRule code number = ((code ≡ 2) ⊎ ((code ≡ 5) ⊎ (code ≡ 8)) → number ≡ 0) × (code ≡ 1 → number ≤ 255) × (code ≡ 3 → number ≤ 1)
 
 -- 14: "a trace's ... number breaks its rule"
-abbrev pub numberTooLarge : List ℕ → ℕ → Row
-numberTooLarge bytes place = record { number = 14; place = place + 2; condition = NumberRule (getD bytes place 0) (numberAt bytes (place + 2)) → ⊥ }
+abbrev pub numberBreaksRule : List ℕ → ℕ → Row
+numberBreaksRule bytes place = record { number = 14; place = place + 2; condition = NumberRule (getD bytes place 0) (numberAt bytes (place + 2)) → ⊥ }
 
 -- 13: "bytes after the last operation"; P is "first extra byte for 13"
 abbrev pub bytesAfter : List ℕ → ℕ → Row
@@ -66,13 +66,14 @@ headOrder bytes =
 -- "Of an operation all six bytes, then code, target, number."
 abbrev pub operationOrder : List ℕ → ℕ → List Row
 operationOrder bytes place =
-    endsBefore bytes (place + 6) ∷ unknownCode bytes place ∷ targetNotZero bytes place ∷ numberTooLarge bytes place ∷ []
+    endsBefore bytes (place + 6) ∷ unknownCode bytes place ∷ targetNotZero bytes place ∷ numberBreaksRule bytes place ∷ []
 
 -- the operations from an index on, as many as are left, and what follows the last
 abbrev pub operationsOrder : List ℕ → ℕ → ℕ → List Row
 operationsOrder bytes index zero = bytesAfter bytes (placeOf index) ∷ []
 operationsOrder bytes index (suc left) = operationOrder bytes (placeOf index) ++ operationsOrder bytes (suc index) left
 
+-- all that a trace is tested for, from the front
 abbrev pub order : List ℕ → List Row
 order bytes = headOrder bytes ++ operationsOrder bytes 0 (numberAt bytes 12)
 

@@ -9,7 +9,7 @@ use Rattle.trace.specs.declared.rule.Rule.the-variants.{None, Code, Targ
 abbrev pub codeBroken : ℕ → Bool
 codeBroken code = eqb code 0 || ltb 8 code
 
--- "Target 0 for 6, 7, 8."
+-- "Target 0 for 6, 7, 8." The code is tested before, so from 6 on it is one of these
 abbrev pub targetBroken : ℕ → ℕ → Bool
 targetBroken code target = cond (ltb code 6) false (not (eqb target 0))
 

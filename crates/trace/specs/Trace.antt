@@ -11,6 +11,7 @@ use Rattle.trace.specs.Judgement.{Judgement, refusedAt, sound, andThen}
 use Rattle.trace.specs.Head.{readHead}
 use Rattle.trace.specs.Operation.{placeOf, operationAt}
 
+-- "divisor and model", and the "operations"
 pub record Trace : Type 0 where
   pub divisor : ℕ
   pub model : PitType
@@ -29,9 +30,11 @@ abbrev pub operationsFrom : List ℕ → ℕ → ℕ → Judgement (List Operati
 operationsFrom bytes index zero = ending bytes (placeOf index)
 operationsFrom bytes index (suc left) = andThen (operationAt bytes index) (before (operationsFrom bytes (suc index) left))
 
+-- what the head says, with the operations that were read
 abbrev pub traceOf : Head → List Operation → Trace
 traceOf head operations = record { divisor = head .divisor; model = head .model; operations = operations }
 
+-- the operations that the head counts
 abbrev pub afterHead : List ℕ → Head → Judgement Trace
 afterHead bytes head = andThen (operationsFrom bytes 0 (head .operations)) (λ operations. sound (traceOf head operations))
 

@@ -5,6 +5,7 @@ use crate::head::Judged;
 use crate::head::read_head;
 use crate::operation::OperationJudged;
 use crate::operation::operation_at;
+use crate::operation::place_of;
 use refusal::Refusal;
 ghost use mathlib.Core.Path.{_≡_};
 ghost use Prim.Native.Nat.{_≤_};
@@ -44,7 +45,7 @@ fn operations(bytes: &[u8], number: u32) -> Found
             }
         }
     }
-    ending(bytes, 16 + 6 * (number as usize))
+    ending(bytes, place_of(number))
 }
 
 // What the head says, of a trace that is sound to its end.

@@ -7,7 +7,7 @@ use refusal::Refusal;
 use time::SystemTicks;
 ghost use mathlib.Core.Path.{_≡_};
 ghost use Prim.Native.Nat.{_≤_, _<_};
-ghost use Rattle.trace.specs.Operation.{operationOf, operationAt};
+ghost use Rattle.trace.specs.Operation.{operationOf, placeOf, operationAt};
 ghost use Rattle.trace.specs.Answer.{operationJudged};
 
 // Ports and channels are as the trace has them: a bad one is refused when it is run.
@@ -59,6 +59,13 @@ fn operation_of(code: u8, target: u8, number: u32) -> Operation
     }
 }
 
+// The operations stand one after another behind the 16 bytes of the head.
+pub(crate) fn place_of(index: u32) -> usize
+    ensures { λ r. ⌜ r ≡ placeOf index ⌝ }
+{
+    16 + 6 * (index as usize)
+}
+
 fn refused(refusal: Refusal, place: usize) -> OperationJudged
     ensures { λ r. ⌜ r ≡ OperationJudged.Refused (record { refusal = refusal; place = place }) ⌝ }
 {
@@ -69,7 +76,7 @@ fn refused(refusal: Refusal, place: usize) -> OperationJudged
 pub fn operation_at(bytes: &[u8], index: u32) -> OperationJudged
     ensures { λ r. ⌜ operationJudged r ≡ operationAt (now (bytes .entry)) index ⌝ }
 {
-    let place = 16 + 6 * (index as usize);
+    let place = place_of(index);
     if bytes.len() < place + 6 {
         return refused(Refusal::TraceEnds, bytes.len());
     }

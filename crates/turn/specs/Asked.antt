@@ -9,6 +9,7 @@ use Rattle.step.specs.Operation as call
 abbrev pub lent : List ℕ
 lent = 0 ∷ 0 ∷ []
 
+-- the call of the board: "1 write port, 2 read port, 3 gate, 4 counts, 5 load cycle, 6 catch-up, 7 run, 8 reset"
 abbrev pub asked : Operation → call.Operation
 asked (recorded.WritePort port byte) = call.WritePort port byte lent 0
 asked (recorded.ReadPort port) = call.ReadPort port

@@ -18,6 +18,7 @@ use Rattle.turn.specs.declared.finding.Work.the-variants as work
 use Rattle.turn.specs.declared.finding.Turn.{Turn}
 use Rattle.turn.specs.declared.finding.Turn.the-variants.{OnChannel, Elapse, Reset, Say}
 
+-- "Each returns its number and the same board"
 abbrev pub refuse : Refusal → Turn
 refuse refusal = Say (Refused refusal)
 

@@ -8,9 +8,11 @@ use Rattle.step.specs.Step.{step}
 use Rattle.turn.specs.declared.making.Made.{Made}
 use Rattle.turn.specs.Asked.{asked, lentAfter}
 
+-- a call's reply and board, and the two lent bytes after it
 abbrev pub withLent : Operation → Outcome → Outcome
 withLent o outcome = record { reply = outcome .reply; board = outcome .board; events = lentAfter o (outcome .events) }
 
+-- an operation is one step of the board (step/specs/Step.antt); "Ports and channels are checked only when run."
 unfoldable pub make : Board → Operation → Outcome
 make b o = withLent o (step b (asked o))
 

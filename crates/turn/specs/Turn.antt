@@ -43,13 +43,16 @@ abbrev pub recordAfter : Reply ℕ → Channel → Channel → Channel
 recordAfter (refused number) old new = old
 recordAfter (accepted place) old new = new
 
+-- the event's refusal or its new place is the work's
 abbrev pub settledOn : Channel → Channel → Placing → WorkDone
 settledOn old new placing =
     record { reply = callReply (placing .reply); channel = recordAfter (placing .reply) old new; events = placing .bytes }
 
+-- a new record of channel n, with two bytes lent "at place 0" for the event of its output
 abbrev pub changed : ℕ → Channel → Channel → List ℕ → WorkDone
 changed n old new events = settledOn old new (placeEvent (levelEvent n old new) events 0)
 
+-- "Reads come from the output latch": the byte, and the record that the read leaves
 abbrev pub readDone : ByteRead → List ℕ → WorkDone
 readDone r events = record { reply = accepted (byte (r .byte)); channel = r .channel; events = events }
 
@@ -81,9 +84,11 @@ timeAfter remainder warp defer next defers (refused number) =
 timeAfter remainder warp defer next defers (accepted made) =
     record { reply = accepted (ticks (made .ticks)); remainder = made .remainder; warp = next; defer = defers || defer }
 
+-- put into the board's own fields
 abbrev pub timedOn : Board → TimeDone → Outcome
 timedOn b t = record { reply = t .reply; board = withTime b (t .remainder) (t .warp) (t .defer); events = lent }
 
+-- what a turn comes to on a board
 abbrev pub turned : Board → Turn → Outcome
 turned b (turn.OnChannel n w) = workedOn b n (workOn (channelAt b n) n w (b .model) (b .defer) lent)
 turned b (turn.Elapse given next defers) =
@@ -102,5 +107,6 @@ OnBoard (turn.Say answer) = Unit
 abbrev pub workDone : Worked → List ℕ → WorkDone
 workDone r events = record { reply = replyOf (r .answer); channel = r .channel; events = events }
 
+-- .. and for the board's time
 abbrev pub timeDone : Elapsed → TimeDone
 timeDone r = record { reply = replyOf (r .answer); remainder = r .remainder .0; warp = r .warp .0; defer = r .defer }

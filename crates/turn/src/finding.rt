@@ -47,10 +47,10 @@ fn command_turn(byte: u8) -> Turn
 {
     let command = control::command_of(byte);
     let Command::SetMode(n, word) = command else {
-        let Command::LatchCount(latched) = command else {
+        let Command::LatchCount(n) = command else {
             return Turn::Say(Answer::Place(0));
         };
-        return Turn::OnChannel(latched, Work::Latch);
+        return Turn::OnChannel(n, Work::Latch);
     };
     Turn::OnChannel(n, Work::SetMode(word))
 }

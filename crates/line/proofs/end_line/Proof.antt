@@ -6,7 +6,7 @@ use Rattle.text.specs.Ascii.{ascii}
 use Rattle.text.specs.Number.{decimal}
 use Rattle.text.proofs.Decimal.{decimal-u32}
 use Rattle.text.proofs.Puts.{wrote, and-then}
-use Rattle.line.specs.Line.{longest}
+use Rattle.line.specs.Line.{lineRoom}
 use Rattle.line.specs.Lines.{newline, endLine}
 use Rattle.line.proofs.Ends.{line-text}
 use Rattle.line.proofs.end_line.Statement.{statement}
@@ -20,7 +20,7 @@ returns c =
     let first = second .before .before .before in
     let start = first .before .before .before in
     let n = start .args .number in
-    let word = wrote (ascii "end ") (replicate longest 0) 0 _ _ (first .put .ensures) in
+    let word = wrote (ascii "end ") (replicate lineRoom 0) 0 _ _ (first .put .ensures) in
     let number = and-then word (decimal n) _ _ (second .put-decimal .ensures) in
     let whole = and-then number newline _ _ (third .put2 .ensures) in
     line-text whole (simp length-append (omega (arith, decimal-u32 n (omega arith))))

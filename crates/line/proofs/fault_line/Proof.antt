@@ -6,7 +6,7 @@ use Rattle.text.specs.Ascii.{ascii}
 use Rattle.text.specs.Number.{decimal}
 use Rattle.text.proofs.Decimal.{decimal-u8, decimal-u64}
 use Rattle.text.proofs.Puts.{wrote, and-then}
-use Rattle.line.specs.Line.{longest}
+use Rattle.line.specs.Line.{lineRoom}
 use Rattle.line.specs.Lines.{newline, faultLine}
 use Rattle.line.proofs.Ends.{line-text}
 use Rattle.line.proofs.fault_line.Statement.{statement}
@@ -23,7 +23,7 @@ returns c =
     let start = first .before .before .before in
     let n = second .before .number in
     let at = start .args .at in
-    let words = wrote (ascii "trace refused ") (replicate longest 0) 0 _ _ (first .put .ensures) in
+    let words = wrote (ascii "trace refused ") (replicate lineRoom 0) 0 _ _ (first .put .ensures) in
     let number = and-then words (decimal (n .result)) _ _ (second .put-decimal .ensures) in
     let word = and-then number (ascii " at ") _ _ (third .put2 .ensures) in
     let place = and-then word (decimal at) _ _ (fourth .put-decimal2 .ensures) in

@@ -6,7 +6,7 @@ use Rattle.text.specs.Ascii.{ascii}
 use Rattle.text.specs.Number.{decimal}
 use Rattle.text.proofs.Decimal.{decimal-u32}
 use Rattle.text.proofs.Puts.{wrote, and-then}
-use Rattle.line.specs.Line.{longest}
+use Rattle.line.specs.Line.{lineRoom}
 use Rattle.line.specs.Lines.{newline, headLine}
 use Rattle.line.proofs.Ends.{line-text}
 use Rattle.line.proofs.head_line.Statement.{statement}
@@ -23,7 +23,7 @@ returns c =
     let start = first .before .before .before .before in
     let m = first .before .before .before .model-name in
     let a = start .args in
-    let pit = wrote (ascii "pit ") (replicate longest 0) 0 _ _ (first .put .ensures) in
+    let pit = wrote (ascii "pit ") (replicate lineRoom 0) 0 _ _ (first .put .ensures) in
     let name = and-then pit (m .result) _ _ (second .put2 .ensures) in
     let word = and-then name (ascii " divisor ") _ _ (third .put3 .ensures) in
     let number = and-then word (decimal (a .divisor)) _ _ (fourth .put-decimal .ensures) in

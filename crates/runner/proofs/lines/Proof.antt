@@ -9,7 +9,7 @@ use borrow.Author.Needs.{needs}
 use Rattle.board.specs.declared.Board.{Board}
 use Rattle.board.specs.Outcome.{Outcome}
 use Rattle.board.specs.Making.{reset}
-use Rattle.line.specs.Line.{longest}
+use Rattle.line.specs.Line.{lineRoom}
 use Rattle.text.specs.Put.{put, answered}
 use Rattle.trace.specs.Trace.{operationsFrom}
 use Rattle.trace.specs.Answer.{operationJudged, operationsOf}
@@ -41,7 +41,7 @@ turn t = t .before .before .before .before .before .before
 -- the turn's outcome, and its line, carry the loop on
 next : (t : Turned) (outcome : Outcome) → turned (turn t .loop .b) (t .turn-of .result) ≡ outcome → (at₁ : ℕ) (out₁ : List ℕ)
     → (answered at₁ out₁ ≡ put (lineOfOutcome (start t .args .first + turn t .loop .j) outcome) (turn t .loop .out) (turn t .loop .at))
-    × (length (lineOfOutcome (start t .args .first + turn t .loop .j) outcome) ≤ longest)
+    × (length (lineOfOutcome (start t .args .first + turn t .loop .j) outcome) ≤ lineRoom)
     → Inv-loop (now (start t .args .trace)) (start t .args .first) (start t .args .number) (now (start t .args .out)) (start t .args .place) (start t .args .start) (start t .args .place) 0 out₁ (outcome .board) at₁ (turn t .loop .j + 1)
 next t outcome comes at₁ out₁ said =
     let a = start t .args in

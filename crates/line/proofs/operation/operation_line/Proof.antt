@@ -7,7 +7,7 @@ use Rattle.text.specs.Ascii.{ascii}
 use Rattle.text.specs.Number.{decimal}
 use Rattle.text.proofs.Decimal.{decimal-u32}
 use Rattle.text.proofs.Puts.{wrote, and-then, wrote-place}
-use Rattle.line.specs.Line.{longest}
+use Rattle.line.specs.Line.{lineRoom}
 use Rattle.line.specs.Lines.{newline, answerText, operationLine}
 use Rattle.line.proofs.Ends.{line-text}
 use Rattle.line.proofs.operation.operation_line.Statement.{statement}
@@ -19,7 +19,7 @@ put-answer-requires c κs =
     let first = second .before .before .before .before in
     let start = first .before .before in
     let i = start .args .index in
-    let index = wrote (decimal i) (replicate longest 0) 0 _ _ (first .put-decimal .ensures) in
+    let index = wrote (decimal i) (replicate lineRoom 0) 0 _ _ (first .put-decimal .ensures) in
     let space = and-then index (ascii " ") _ _ (second .put .ensures) in
     omega (arith, wrote-place space (simp length-append (omega (arith, decimal-u32 i (omega arith)))), decimal-u32 i (omega arith), length-append (decimal i) (ascii " "))
 
@@ -32,7 +32,7 @@ returns c =
     let first = second .before .before .before .before in
     let start = first .before .before in
     let a = start .args in
-    let index = wrote (decimal (a .index)) (replicate longest 0) 0 _ _ (first .put-decimal .ensures) in
+    let index = wrote (decimal (a .index)) (replicate lineRoom 0) 0 _ _ (first .put-decimal .ensures) in
     let space = and-then index (ascii " ") _ _ (second .put .ensures) in
     let answer = and-then space (answerText (replyOf (a .answer)) (a .events) (a .left .0)) _ _ (third .put-answer .ensures .0) in
     let whole = and-then answer newline _ _ (fourth .put2 .ensures) in

@@ -1,41 +1,41 @@
 -- `trace::operation::operation_at` meets its contract. Assumes nothing.
-use Prim.Native.Nat.{_+_}
-use mathlib.Core.Path.{_≡_, sym, ap, _∙_}
-use denote.Ref.{now}
+use Prim.Native.Nat.{ℕ, _+_}
+use mathlib.Core.Path.{_≡_, sym, _∙_}
 use lib.ListN.{getD}
 use borrow.Author.Tests.{le-ltb, lt-ltb}
 use borrow.Author.Needs.{needs}
-use Rattle.trace.specs.Number.{numberAt}
-use Rattle.trace.specs.Rule.{brokenRule}
-use Rattle.trace.specs.Operation.{operationOf, judgedBy, placeOf, operationAt}
+use Rattle.trace.specs.Operation.{operationOf, judgedBy, operationAt}
 use Rattle.trace.proofs.Codes.{kept}
 use Rattle.trace.proofs.operation.operation_at.Statement.{statement}
 use Rattle.trace.proofs.operation.operation_at.Tie as tie
 
 abbrev start : tie.After-broken-rule → tie.Start
-start c = c .before .before .before .before .before .before
+start c = c .before .before .before .before .before .before .before
+
+abbrev place : tie.After-broken-rule → ℕ
+place c = c .before .before .before .before .before .place-of .result
 
 abbrev ruled : (c : tie.After-broken-rule) → Type 0
 ruled c =
     let bytes = start c .args .bytes .now in
-    let place = placeOf (start c .args .index) in
-    operationAt bytes (start c .args .index) ≡ judgedBy (c .broken-rule .result) place (operationOf (getD bytes place 0) (getD bytes (place + 1) 0) (c .before .number-at .result))
+    operationAt bytes (start c .args .index)
+    ≡ judgedBy (c .broken-rule .result) (place c) (operationOf (getD bytes (place c) 0) (getD bytes (place c + 1) 0) (c .before .number-at .result))
 
 -- the six bytes are there: the rule decides
 judged : (c : tie.After-broken-rule) → ruled c
 unfolding operationAt
-judged c = simp (c .broken-rule .ensures, c .before .number-at .ensures, le-ltb _ _ (c .before .before .before .before .if1 .left))
+judged c =
+    simp (sym (c .before .before .before .before .before .place-of .ensures), c .broken-rule .ensures, c .before .number-at .ensures, le-ltb _ _ (c .before .before .before .before .if1 .left))
 
 returns : tie.Need-returns
 unfolding operationAt
-returns c = simp (c .refused .ensures, lt-ltb _ _ (c .before .if1 .taken))
+returns c = simp (sym (c .before .before .place-of .ensures), c .refused .ensures, lt-ltb _ _ (c .before .if1 .taken))
 
 operation-of-requires : tie.Need-operation-of-requires
 operation-of-requires c κs =
     let at-rule = c .before .before in
     let bytes = start at-rule .args .bytes .now in
-    let place = placeOf (start at-rule .args .index) in
-    kept (getD bytes place 0) (getD bytes (place + 1) 0) (at-rule .before .number-at .result) (sym (c .before .before .broken-rule .ensures) ∙ c .enum-told4 .given .1)
+    kept (getD bytes (place at-rule) 0) (getD bytes (place at-rule + 1) 0) (at-rule .before .number-at .result) (sym (c .before .before .broken-rule .ensures) ∙ c .enum-told4 .given .1)
 
 returns-2 : tie.Need-returns-2
 returns-2 c = simp (c .refused2 .ensures, judged (c .before .before .before), c .before .enum-told .given .1)
@@ -53,8 +53,7 @@ pub operation-at-spec : {M : Type 1} → statement M
 operation-at-spec =
     tie.close
     (tie.spec
-    (λ c. search needs)
-    (λ c. search needs)
+    (λ c κs. search needs)
     (λ c. search needs)
     (λ c κs. search needs)
     returns
