@@ -2,7 +2,7 @@
 // just sound. What is printed under a name is the replay of that trace; of the one with 4,096 operations only the end.
 use libc::STDOUT_FILENO;
 
-// The longest trace, and one byte more.
+// The longest trace. The arrays have room for one byte more.
 const LONGEST: usize = 24592;
 
 // Divisor 12 on the 8253, or what a case is about.
@@ -79,6 +79,8 @@ fn show_end(name: &[u8], trace: &[u8], length: usize, most: usize) {
     if length <= trace.len() {
         let printed = runner::replay(&trace[0..length], &mut output);
         if most < printed {
+            io::print_decimal(STDOUT_FILENO, printed as u64);
+            say(b" bytes, the last of them ");
             say(&output[printed - most..printed]);
         } else {
             say(&output[..printed]);

@@ -1,9 +1,9 @@
--- `trace_prefixes::digests` is safe and ends. Assumes nothing.
+-- `trace_prefixes::show_all` is safe and ends. Assumes nothing.
 use Prim.Native.Nat.{_+_, _-_, _≤_}
 use lib.ListN.{length}
 use borrow.Author.Needs.{needs}
-use Rattle.trace_prefixes.proofs.digests.Statement.{statement}
-use Rattle.trace_prefixes.proofs.digests.Tie as tie
+use Rattle.trace_prefixes.proofs.show_all.Statement.{statement}
+use Rattle.trace_prefixes.proofs.show_all.Tie as tie
 
 abbrev Inv-loop : tie.InvT-loop
 Inv-loop trace n₀ n = n ≤ length trace + 1
@@ -11,8 +11,8 @@ Inv-loop trace n₀ n = n ≤ length trace + 1
 abbrev μ-loop : tie.MeasureT-loop
 μ-loop trace n₀ n = length trace + 1 - n
 
-pub digests-spec : {M : Type 1} → statement M
-digests-spec =
+pub show-all-spec : {M : Type 1} → statement M
+show-all-spec =
     tie.close
     (tie.spec
     Inv-loop
