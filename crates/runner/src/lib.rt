@@ -61,6 +61,7 @@ fn lines(trace: &[u8], start: Board, first: u32, number: u32, out: &mut [u8], pl
         let index = first + j;
         let found = trace::operation_at(trace, index);
         let OperationJudged::Sound(operation) = found else {
+            // Not taken: the trace was judged.
             return at;
         };
         j += 1;
