@@ -1,14 +1,14 @@
 -- What the rules leave of an operation's code and number. Assumes nothing.
-use Prim.Native.Nat.{ℕ, _<_, _≤_}
+use Prim.Native.Nat.{ℕ, zero, suc, _<_, _≤_}
 use mathlib.Core.Path.{_≡_, refl, sym, subst}
-use mathlib.Core.Bool.{Bool, true, false, cond, _||_, false≢true}
+use mathlib.Core.Bool.{Bool, true, false, cond}
 use native.Mathlib.Omega.{arith}
-use lib.Dec.{ltb, eqb}
-use borrow.Author.Tests.{ne-eqb, ltb-false, eqb-false}
+use lib.Dec.{ltb}
+use borrow.Author.Tests.{ne-eqb, ltb-false}
 use Rattle.trace.specs.declared.operation.Operation.the-variants.{Reset}
 use Rattle.trace.specs.declared.rule.Rule.{Rule}
 use Rattle.trace.specs.declared.rule.Rule.the-variants.{None, Code, Target, Number}
-use Rattle.trace.specs.Rule.{codeBroken, targetBroken, numberBroken, brokenRule}
+use Rattle.trace.specs.Rule.{brokenRule}
 use Rattle.trace.specs.Operation.{operationOf}
 
 -- what is no code below 8 is a reset
@@ -23,22 +23,18 @@ Kept Code = ⊥
 Kept Target = ⊥
 Kept Number = ⊥
 
--- where the answer is no broken rule, no test found one
-none-of : (test : Bool) (broken rest : Rule) → (Kept broken → ⊥) → cond test broken rest ≡ None → (test ≡ false) × (rest ≡ None)
-none-of true broken rest is e = absurd (is (subst Kept (sym e) tt))
-none-of false broken rest is e = (refl, e)
+broken-not : (broken : Rule) → (Kept broken → ⊥) → broken ≡ None → ⊥
+broken-not broken is e = is (subst Kept (sym e) tt)
 
-either : (a b : Bool) → (a || b) ≡ false → (a ≡ false) × (b ≡ false)
-either true b e = absurd (false≢true (sym e))
-either false b e = (refl, e)
+-- a byte that a write may have
+write-kept : (number : ℕ) (large : Bool) → ltb 255 number ≡ large → cond large Number None ≡ None → number < 256
+write-kept number true e is = absurd (broken-not Number (λ none. none) is)
+write-kept number false e is = let h : number ≤ 255 = ltb-false 255 number e in omega arith
 
 -- an operation that breaks no rule has a code, and a byte where it writes one
 pub kept : (code target number : ℕ) → brokenRule code target number ≡ None → (1 ≤ code) × (code ≡ 1 → number < 256)
-kept code target number e =
-    let code-kept = none-of (codeBroken code) Code _ (λ none. none) e in
-    let target-kept = none-of (targetBroken code target) Target _ (λ none. none) (code-kept .1) in
-    let number-kept = none-of (numberBroken code number) Number None (λ none. none) (target-kept .1) in
-    let zero-not = eqb-false code 0 (either (eqb code 0) (ltb 8 code) (code-kept .0) .0) in (
-      omega (arith, zero-not),
-      λ one. let h : number ≤ 255 = ltb-false 255 number (subst (λ (k : ℕ). numberBroken k number ≡ false) one (number-kept .0)) in omega (arith, h),
-    )
+kept zero target number e = absurd (broken-not Code (λ none. none) e)
+kept (suc code) target number e = (
+  omega arith,
+  λ one. write-kept number (ltb 255 number) refl (subst (λ (k : ℕ). brokenRule k target number ≡ None) one e),
+)
