@@ -1,5 +1,5 @@
 -- The runner's turns: the board and the lines after j operations, and how one operation more goes on from there. Assumes nothing.
-use Prim.Native.Nat.{ℕ, zero, suc, _+_, _*_, _<_, _≤_}
+use Prim.Native.Nat.{ℕ, suc, _+_, _*_, _<_, _≤_}
 use mathlib.Core.List.{List, [], _∷_, _++_, append-assoc, append-nil}
 use mathlib.Core.Path.{_≡_, refl, sym, ap, subst, _∙_}
 use native.Mathlib.Nat.{add-zero, add-suc, suc-add}
@@ -11,7 +11,7 @@ use Rattle.board.specs.declared.Board.{Board}
 use Rattle.board.specs.Outcome.{Outcome}
 use Rattle.line.specs.Line.{lineRoom}
 use Rattle.text.specs.Put.{put, answered}
-use Rattle.text.proofs.Puts.{Wrote, and-then, wrote-place, put-fits, put-length}
+use Rattle.text.proofs.Puts.{Wrote, and-then, put-fits, put-length}
 use Rattle.trace.specs.declared.operation.Operation.{Operation}
 use Rattle.trace.specs.declared.operation.Operation.the-variants as recorded
 use Rattle.trace.specs.Judgement.{Judgement, refusedAt, sound}

@@ -1,6 +1,5 @@
 // A whole trace: its head, its operations, and nothing after them.
 use crate::Fault;
-use crate::head::Head;
 use crate::head::Judged;
 use crate::head::read_head;
 use crate::operation::OperationJudged;
@@ -8,7 +7,6 @@ use crate::operation::operation_at;
 use crate::operation::place_of;
 use refusal::Refusal;
 ghost use mathlib.Core.Path.{_≡_};
-ghost use Prim.Native.Nat.{_≤_};
 ghost use Rattle.trace.specs.Trace.{ending, operationsFrom, readTrace};
 ghost use Rattle.trace.specs.Answer.{soundness, faultJudged, headJudged, summary};
 

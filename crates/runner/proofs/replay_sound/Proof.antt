@@ -1,9 +1,8 @@
 -- `runner::replay_sound` meets its contract. Assumes nothing.
-use Prim.Native.Nat.{ℕ, _≤_}
-use mathlib.Core.Path.{_≡_, sym, ap, _∙_}
+use mathlib.Core.Path.{ap, _∙_}
 use native.Mathlib.Omega.{arith}
 use denote.Ref.{now}
-use lib.ListN.{length, length-append}
+use lib.ListN.{length-append}
 use borrow.Author.Needs.{needs}
 use Rattle.board.specs.Outcome.{Outcome}
 use Rattle.line.specs.Lines.{headLine, endLine}

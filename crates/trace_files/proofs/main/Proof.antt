@@ -1,7 +1,5 @@
 -- `trace_files::main` is safe and ends. Assumes nothing.
 use Prim.Native.Nat.{_-_, _≤_}
-use native.Mathlib.Omega.{arith}
-use lib.ListN.{length}
 use borrow.Author.Needs.{needs}
 use Rattle.trace_files.proofs.main.Statement.{statement}
 use Rattle.trace_files.proofs.main.Tie as tie
