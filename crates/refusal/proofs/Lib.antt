@@ -1,2 +1,3 @@
 pub mod Apart
 pub mod Numbered
+pub mod Tests

@@ -20,6 +20,7 @@ use Rattle.trace.specs.Trace.{operationsFrom}
 use Rattle.trace.specs.Answer.{soundness, operationsOf}
 use Rattle.trace.proofs.Indexed.{from-index}
 use Rattle.trace.proofs.Turns.{Counts, as-many}
+use Rattle.trace.proofs.Values.{not-refused}
 use Rattle.turn.specs.Made.{make, makeAll}
 use Rattle.runner.specs.Printed.{lineOfOutcome, linesFrom}
 
@@ -34,16 +35,12 @@ make-then : (b : Board) (os : List Operation) (o : Operation) → makeAll b (os 
 make-then b [] o = refl
 make-then b (p ∷ os) o = make-then (make b p .board) os o
 
-abbrev Refused : {A : Type 0} → Judgement A → Type 0
-Refused (refusedAt number place) = Unit
-Refused (sound value) = ⊥
-
 abbrev operationIn : Judgement Operation → Operation → Operation
 operationIn (refusedAt number place) o = o
 operationIn (sound value) o = value
 
 sound-is : (j : Judgement (List Operation)) → soundness j ≡ sound tt → j ≡ sound (operationsOf j)
-sound-is (refusedAt number place) e = absurd (subst Refused e tt)
+sound-is (refusedAt number place) e = absurd (not-refused tt number place (sym e))
 sound-is (sound os) e = refl
 
 -- the operations of a sound trace: how many there are, and each by its index
@@ -61,7 +58,7 @@ module _ (trace : List ℕ) (first number : ℕ) (all : soundness (operationsFro
   found j h o e = ap (λ (judgement : Judgement Operation). operationIn judgement o) (sym (from-index trace first number operations are j h o) ∙ e)
 
   pub no-fault : (j : ℕ) → j < number → (n p : ℕ) → operationAt trace (first + j) ≡ refusedAt n p → ⊥
-  no-fault j h n p e = subst Refused (sym e ∙ from-index trace first number operations are j h recorded.Reset) tt
+  no-fault j h n p e = not-refused _ n p (sym (from-index trace first number operations are j h recorded.Reset) ∙ e)
 
 -- the board and the lent bytes after the first j operations of a list
 pub record Running (start : Board) (first : ℕ) (os : List Operation) (bytes : List ℕ) (place : ℕ) (b : Board) (at j : ℕ) (out : List ℕ) : Type 0 where

@@ -7,6 +7,7 @@ use mathlib.Core.List.{List, [], _∷_}
 use mathlib.Core.Logic.{_↔_}
 use lib.Dec.{ltb, eqb}
 use Rattle.refusal.specs.Reply.{Reply, refused}
+use Rattle.refusal.proofs.Tests.{below, equal}
 use Rattle.channel.specs.declared.PitType.{PitType}
 use Rattle.channel.proofs.Pick.{of-pick}
 use Rattle.control.specs.declared.Command.{Command}
@@ -35,7 +36,7 @@ use Rattle.step.specs.Operation.{Operation, WritePort, ReadPort, SetChan
 use Rattle.step.specs.Step.{step}
 use Rattle.step.specs.Refusals.{Row, Changes, portUnknown, channelAbove2, divisorZero, ticksBelowWarp, remainderTooLarge, tooManyCounts, CommandDue, WriteDue, GateDue, roomOrder, timeOrder, order, makingOrder, FirstOf}
 use Rattle.step.proofs.Levels.{write-level, gate-level, mode-level, latch-level}
-use Rattle.step.proofs.Deciding.{accepts, holding, failing, tested, below, equal}
+use Rattle.step.proofs.Deciding.{accepts, holding, failing, tested}
 use Rattle.step.proofs.Settled.{settle-refused, untouched-refused}
 
 -- what a channel's test leaves to the others

@@ -1,23 +1,17 @@
 -- A judgement decided by tests, one after another, is a refusal exactly when the first row that holds is that refusal's. Assumes nothing.
-use Prim.Native.Nat.{ℕ, _<_, _≤_}
-use mathlib.Core.Path.{_≡_, refl, sym, ap, subst}
+use Prim.Native.Nat.{ℕ, _≤_}
+use mathlib.Core.Path.{_≡_, refl, sym, ap}
 use mathlib.Core.Bool.{Bool, true, false, not, cond, _||_, false≢true}
 use mathlib.Core.List.{List, [], _∷_}
 use mathlib.Core.Logic.{_⊎_, inl, inr, ⊎-elim, _↔_}
 use lib.Dec.{ltb, eqb}
-use borrow.Author.Tests.{ltb-true, ltb-false, lt-ltb, le-ltb, eqb-true, eq-eqb, not-false}
+use borrow.Author.Tests.{ltb-false, le-ltb, eqb-true, eq-eqb, not-false}
 use Rattle.trace.specs.Judgement.{Judgement, refusedAt, sound, andThen}
 use Rattle.trace.specs.Refusals.{Row, FirstAt}
+use Rattle.trace.proofs.Values.{not-refused, again}
 
 pub record Decided {A : Type 0} (j : Judgement A) (rows : List Row) (number place : ℕ) : Type 0 where
   pub exactly : (j ≡ refusedAt number place) ↔ FirstAt rows number place
-
-abbrev Refuses : {A : Type 0} → Judgement A → Type 0
-Refuses (refusedAt number place) = Unit
-Refuses (sound value) = ⊥
-
-not-refused : {A : Type 0} (value : A) (number place : ℕ) → sound value ≡ refusedAt number place → ⊥
-not-refused value number place e = subst Refuses (sym e) tt
 
 -- nothing is left to refuse
 pub accepts : {A : Type 0} (value : A) (number place : ℕ) → Decided (sound value) [] number place
@@ -46,10 +40,6 @@ tested false r rest after number place means others =
     let fails : r .condition → ⊥ = λ holds. false≢true (means .1 holds) in
     record { exactly = (λ e. inr (fails, others refl .exactly .0 e), ⊎-elim (λ first. absurd (fails (first .2))) (λ later. others refl .exactly .1 (later .1))) }
 
-abbrev again : {A B : Type 0} → Judgement A → Judgement B
-again (refusedAt number place) = refusedAt number place
-again (sound value) = refusedAt 0 0
-
 -- what is made of the value changes no refusal
 pub made-of : {A B : Type 0} (j : Judgement A) (f : A → B) (rows : List Row) (number place : ℕ) → Decided j rows number place
     → Decided (andThen j (λ value. sound (f value))) rows number place
@@ -63,12 +53,6 @@ made-of (sound value) f rows number place d =
     }
 
 -- what the tests mean
-pub below : (a b : ℕ) → (ltb a b ≡ true) ↔ (a < b)
-below a b = (ltb-true a b, lt-ltb a b)
-
-pub equal : (a b : ℕ) → (eqb a b ≡ true) ↔ (a ≡ b)
-equal a b = (eqb-true a b, eq-eqb a b)
-
 pub one-of : {A B : Type 0} (a b : Bool) → (a ≡ true) ↔ A → (b ≡ true) ↔ B → ((a || b) ≡ true) ↔ (A ⊎ B)
 one-of true b first second = (λ e. inl (first .0 refl), λ one. refl)
 one-of false b first second = (λ e. inr (second .0 e), ⊎-elim (λ a. absurd (false≢true (first .1 a))) (second .1))

@@ -9,6 +9,7 @@ use native.Mathlib.Omega.{arith}
 use lib.Dec.{ltb, eqb}
 use lib.ListN.{length, getD}
 use borrow.Author.Tests.{eqb-false, ne-eqb}
+use Rattle.refusal.proofs.Tests.{below, equal}
 use Rattle.channel.proofs.Pick.{of-pick}
 use Rattle.trace.specs.declared.rule.Rule.{Rule}
 use Rattle.trace.specs.declared.operation.Operation.{Operation}
@@ -20,7 +21,7 @@ use Rattle.trace.specs.Rule.{codeBroken, targetBroken, numberBroken}
 use Rattle.trace.specs.Operation.{placeOf, operationOf, operationAt, judgedBy}
 use Rattle.trace.specs.Trace.{before, operationsFrom, traceOf, afterHead, readTrace}
 use Rattle.trace.specs.Refusals.{Row, endsBefore, settingsCount, divisorZero, modelAbove1, tooManyOperations, unknownCode, TargetRule, targetNotZero, NumberRule, numberBreaksRule, bytesAfter, operationOrder, operationsOrder, order, FirstAt}
-use Rattle.trace.proofs.Deciding.{Decided, accepts, tested, made-of, below, equal, one-of, at-most, is, free, neither, guarded, breaks}
+use Rattle.trace.proofs.Deciding.{Decided, accepts, tested, made-of, one-of, at-most, is, free, neither, guarded, breaks}
 
 pub code-kept : (code : ℕ) → (codeBroken code ≡ false) ↔ ((1 ≤ code) × (code ≤ 8))
 code-kept code =

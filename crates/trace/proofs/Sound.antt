@@ -8,7 +8,7 @@ use Rattle.trace.specs.Judgement.{Judgement, refusedAt, sound, andThen}
 use Rattle.trace.specs.Head.{readHead}
 use Rattle.trace.specs.Trace.{Trace, operationsFrom, traceOf, readTrace}
 use Rattle.trace.specs.Answer.{soundness, summary, operationsOf}
-use Rattle.trace.proofs.Values.{OfSound, itself, through}
+use Rattle.trace.proofs.Values.{not-refused, again, OfSound, itself, through}
 use Rattle.trace.proofs.Turns.{in-turn}
 use Rattle.trace.proofs.Enough.{few}
 
@@ -33,17 +33,9 @@ judged-sound bytes h e =
     (through in-head (SoundAs bytes) (readHead bytes) after (itself (readHead bytes))
     (λ d head. by-operations bytes d head (subst (OfSound (λ (g : Head). g .operations ≤ 4096)) head (few bytes)) (operationsFrom bytes 0 (d .operations)) refl))
 
-abbrev Refused : {A : Type 0} → Judgement A → Type 0
-Refused (refusedAt number place) = Unit
-Refused (sound value) = ⊥
-
-abbrev refusedAgain : {A B : Type 0} → Judgement A → Judgement B
-refusedAgain (refusedAt number place) = refusedAt number place
-refusedAgain (sound value) = refusedAt 0 0
-
 same-refusal : (j : Judgement Trace) (number place : ℕ) → summary j ≡ refusedAt number place → j ≡ refusedAt number place
-same-refusal (refusedAt n p) number place e = ap refusedAgain e
-same-refusal (sound t) number place e = absurd (subst Refused (sym e) tt)
+same-refusal (refusedAt n p) number place e = ap again e
+same-refusal (sound t) number place e = absurd (not-refused _ number place e)
 
 pub judged-refused : (bytes : List ℕ) (number place : ℕ) → summary (readTrace bytes) ≡ refusedAt number place → readTrace bytes ≡ refusedAt number place
 judged-refused bytes number place e = same-refusal (readTrace bytes) number place e

@@ -1,6 +1,19 @@
--- What holds of the value that is judged sound, if one is. Assumes nothing.
-use mathlib.Core.Path.{_≡_, refl}
+-- A judgement is a refusal or sound, not both; and what holds of the value that is judged sound, if one is. Assumes nothing.
+use Prim.Native.Nat.{ℕ}
+use mathlib.Core.Path.{_≡_, refl, sym, subst}
 use Rattle.trace.specs.Judgement.{Judgement, refusedAt, sound, andThen}
+
+abbrev Refuses : {A : Type 0} → Judgement A → Type 0
+Refuses (refusedAt number place) = Unit
+Refuses (sound value) = ⊥
+
+pub not-refused : {A : Type 0} (value : A) (number place : ℕ) → sound value ≡ refusedAt number place → ⊥
+not-refused value number place e = subst Refuses (sym e) tt
+
+-- a refusal, whatever would have been read
+abbrev pub again : {A B : Type 0} → Judgement A → Judgement B
+again (refusedAt number place) = refusedAt number place
+again (sound value) = refusedAt 0 0
 
 abbrev pub OfSound : {A : Type 0} → (A → Type 0) → Judgement A → Type 0
 OfSound P (refusedAt number place) = Unit
