@@ -1,5 +1,6 @@
 pub mod Record
 pub mod Modes
+pub mod Models
 pub mod Shared
 pub mod Fresh
 pub mod Queries

@@ -1,7 +1,9 @@
-// A mode and its number.
+// A mode and its number, a model and its number.
 use crate::ChannelMode;
+use crate::PitType;
 ghost use mathlib.Core.Path.{_≡_};
 ghost use Rattle.channel.specs.Modes.{modeNumber, modeNumbered};
+ghost use Rattle.channel.specs.Models.{modelNumber, modelNumbered};
 
 impl ChannelMode {
     pub fn number(self) -> u8
@@ -29,5 +31,26 @@ impl ChannelMode {
             4 => ChannelMode::SoftwareTriggeredStrobe,
             _ => ChannelMode::HardwareTriggeredStrobe,
         }
+    }
+}
+
+impl PitType {
+    pub fn number(self) -> u8
+        ensures { λ r. ⌜ r ≡ modelNumber self ⌝ }
+    {
+        match self {
+            PitType::Model8253 => 0,
+            PitType::Model8254 => 1,
+        }
+    }
+
+    // Above 1 it is the 8254.
+    pub fn numbered(n: u32) -> PitType
+        ensures { λ r. ⌜ r ≡ modelNumbered n ⌝ }
+    {
+        if n == 0 {
+            return PitType::Model8253;
+        }
+        PitType::Model8254
     }
 }

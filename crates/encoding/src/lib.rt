@@ -5,5 +5,6 @@ mod storing;
 
 pub use loading::load_channel;
 pub use storing::channel_bytes;
+pub use storing::four_bytes;
 pub use storing::put_front;
 pub use storing::two_bytes;

@@ -14,7 +14,7 @@ fn low(n: u32) -> u8
     (n % 256) as u8
 }
 
-fn four_bytes(n: u32) -> [u8; 4]
+pub fn four_bytes(n: u32) -> [u8; 4]
     ensures { λ r. ⌜ r ≡ fourBytes n ⌝ }
 {
     [

@@ -3,3 +3,4 @@ pub mod Digits
 pub mod Times
 pub mod Flags
 pub mod Little
+pub mod Number

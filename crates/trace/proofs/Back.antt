@@ -11,21 +11,18 @@ use borrow.Author.Tests.{le-ltb, ne-eqb}
 use Rattle.numbers.specs.Little.{fourBytes}
 use Rattle.numbers.proofs.Little.{long-back}
 use Rattle.channel.specs.declared.PitType.{PitType}
-use Rattle.channel.specs.declared.PitType.the-variants.{Model8253, Model8254}
 use Rattle.trace.specs.declared.rule.Rule.the-variants.{None}
 use Rattle.trace.specs.declared.operation.Operation.{Operation}
 use Rattle.trace.specs.declared.operation.Operation.the-variants.{WritePort, ReadPort, SetChannelGate, Counts, LoadCycle, CatchUp, Run, Reset}
 use Rattle.trace.specs.Judgement.{sound}
-use Rattle.trace.specs.Number.{numberAt}
-use Rattle.trace.specs.Head.{modelOf, readHead}
+use Rattle.numbers.specs.Number.{numberAt}
+use Rattle.channel.specs.Models.{modelNumber}
+use Rattle.channel.proofs.Models.{model-back}
+use Rattle.trace.specs.Head.{readHead}
 use Rattle.trace.specs.Rule.{brokenRule}
 use Rattle.trace.specs.Operation.{operationOf, placeOf, operationAt}
 use Rattle.trace.specs.Trace.{Trace, operationsFrom, readTrace}
-use Rattle.trace.specs.Bytes.{six, operationBytes, operationsBytes, modelNumber, traceBytes, Holds, AllHold, Writable}
-
-model-back : (model : PitType) → (modelNumber model ≤ 1) × (modelOf (modelNumber model) ≡ model)
-model-back Model8253 = (omega arith, refl)
-model-back Model8254 = (omega arith, refl)
+use Rattle.trace.specs.Bytes.{six, operationBytes, operationsBytes, traceBytes, Holds, AllHold, Writable}
 
 -- four numbers by their rules, with the bytes that they need
 head-from : (bytes : List ℕ) (divisor : ℕ) (model : PitType) (operations : ℕ) → 16 ≤ length bytes → numberAt bytes 0 ≡ 2 → numberAt bytes 4 ≡ divisor

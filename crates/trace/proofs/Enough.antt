@@ -11,7 +11,7 @@ use borrow.Author.Tests.{lt-ltb, le-ltb, ltb-true, ltb-false}
 use Rattle.channel.proofs.Pick.{pick-holds, pick-knowing}
 use Rattle.trace.specs.declared.head.Head.{Head}
 use Rattle.trace.specs.Judgement.{Judgement}
-use Rattle.trace.specs.Number.{numberAt}
+use Rattle.numbers.specs.Number.{numberAt}
 use Rattle.trace.specs.Head.{readHead}
 use Rattle.trace.specs.Operation.{placeOf, operationAt}
 use Rattle.trace.specs.Trace.{operationsFrom, afterHead, readTrace}

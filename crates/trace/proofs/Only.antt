@@ -18,13 +18,15 @@ use Rattle.trace.specs.declared.head.Head.{Head}
 use Rattle.trace.specs.declared.operation.Operation.{Operation}
 use Rattle.trace.specs.declared.operation.Operation.the-variants.{WritePort, ReadPort, SetChannelGate, Counts, LoadCycle, CatchUp, Run, Reset}
 use Rattle.trace.specs.Judgement.{sound, andThen}
-use Rattle.trace.specs.Number.{numberAt}
-use Rattle.trace.specs.Head.{modelOf, readHead}
+use Rattle.numbers.specs.Number.{numberAt}
+use Rattle.channel.specs.Models.{modelNumber}
+use Rattle.channel.proofs.Models.{model-number-back}
+use Rattle.trace.specs.Head.{readHead}
 use Rattle.trace.specs.Rule.{codeBroken, targetBroken, numberBroken}
 use Rattle.trace.specs.Operation.{operationOf, judgedBy, placeOf, operationAt}
 use Rattle.trace.specs.Trace.{Trace, before, operationsFrom, traceOf, afterHead, readTrace}
 use Rattle.trace.specs.Refusals.{TargetRule, NumberRule}
-use Rattle.trace.specs.Bytes.{AllBytes, six, operationBytes, operationsBytes, modelNumber, traceBytes, Holds, AllHold, Writable}
+use Rattle.trace.specs.Bytes.{AllBytes, six, operationBytes, operationsBytes, traceBytes, Holds, AllHold, Writable}
 use Rattle.trace.proofs.Values.{OfSound, through}
 use Rattle.trace.proofs.Refusals.{code-kept, target-kept, number-kept}
 
@@ -131,11 +133,6 @@ operations-form bytes all i (suc n) =
     through (AllWritten bytes (suc i) n) (AllWritten bytes i (suc n)) (operationsFrom bytes (suc i) n) (λ os. sound (o ∷ os)) (operations-form bytes all (suc i) n)
     (λ os rest. ((first .0, rest .0), ap suc (rest .1), rw (rest .2) (first .1))))
 
-model-back : (number : ℕ) → number ≤ 1 → modelNumber (modelOf number) ≡ number
-model-back zero h = refl
-model-back (suc zero) h = refl
-model-back (suc (suc number)) h = absurd (omega arith)
-
 -- the head that was read has the first 16 bytes
 abbrev HeadWritten : List ℕ → Head → Type 0
 HeadWritten bytes h =
@@ -160,7 +157,7 @@ head-form bytes all =
       omega (arith, eqb-false (at 4) 0 above),
       number-fits bytes all 4,
       ltb-false 4096 (at 12) few,
-      rw (model-back (at 8) (ltb-false 1 (at 8) model)) whole,
+      rw (model-number-back (at 8) (ltb-false 1 (at 8) model)) whole,
     )))))))))
 
 pub only-form : (bytes : List ℕ) → AllBytes bytes → (t : Trace) → readTrace bytes ≡ sound t → Writable t × (traceBytes t ≡ bytes)

@@ -15,7 +15,7 @@ use Rattle.trace.specs.declared.rule.Rule.{Rule}
 use Rattle.trace.specs.declared.operation.Operation.{Operation}
 use Rattle.trace.specs.declared.head.Head.{Head}
 use Rattle.trace.specs.Judgement.{Judgement, refusedAt, present, ruled, andThen}
-use Rattle.trace.specs.Number.{numberAt}
+use Rattle.numbers.specs.Number.{numberAt}
 use Rattle.trace.specs.Head.{headOf, readHead}
 use Rattle.trace.specs.Rule.{codeBroken, targetBroken, numberBroken}
 use Rattle.trace.specs.Operation.{placeOf, operationOf, operationAt, judgedBy}

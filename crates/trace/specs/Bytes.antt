@@ -4,8 +4,7 @@ use mathlib.Core.List.{List, [], _∷_, _++_}
 use lib.ListN.{length}
 use Rattle.numbers.specs.Flags.{flagNumber}
 use Rattle.numbers.specs.Little.{fourBytes}
-use Rattle.channel.specs.declared.PitType.{PitType}
-use Rattle.channel.specs.declared.PitType.the-variants.{Model8253, Model8254}
+use Rattle.channel.specs.Models.{modelNumber}
 use Rattle.trace.specs.declared.operation.Operation.{Operation}
 use Rattle.trace.specs.declared.operation.Operation.the-variants.{WritePort, ReadPort, SetChannelGate, Counts, LoadCycle, CatchUp, Run, Reset}
 use Rattle.trace.specs.Trace.{Trace}
@@ -34,11 +33,6 @@ operationBytes Reset = six 8 0 0
 abbrev pub operationsBytes : List Operation → List ℕ
 operationsBytes [] = []
 operationsBytes (o ∷ os) = operationBytes o ++ operationsBytes os
-
--- "(0 8253, 1 8254)"
-abbrev pub modelNumber : PitType → ℕ
-modelNumber Model8253 = 0
-modelNumber Model8254 = 1
 
 -- "Section one: count 2, then divisor and model (0 8253, 1 8254). Section two: operation count, then operations"
 unfoldable pub traceBytes : Trace → List ℕ

@@ -1,17 +1,12 @@
 -- Document 01, "Recorded traces": "Section one: count 2, then divisor and model (0 8253, 1 8254). Section two: operation count, then operations".
 use Prim.Native.Nat.{ℕ, _+_}
-use mathlib.Core.Bool.{Bool, not, cond}
+use mathlib.Core.Bool.{Bool, not}
 use mathlib.Core.List.{List}
 use lib.Dec.{eqb, ltb}
-use Rattle.trace.specs.Number.{numberAt}
-use Rattle.channel.specs.declared.PitType.{PitType}
-use Rattle.channel.specs.declared.PitType.the-variants.{Model8253, Model8254}
+use Rattle.numbers.specs.Number.{numberAt}
+use Rattle.channel.specs.Models.{modelNumbered}
 use Rattle.trace.specs.declared.head.Head.{Head}
 use Rattle.trace.specs.Judgement.{Judgement, sound, present, ruled}
-
--- "(0 8253, 1 8254)"
-abbrev pub modelOf : ℕ → PitType
-modelOf number = cond (eqb number 0) Model8253 Model8254
 
 -- a number of four bytes that is first there and then by its rule
 abbrev pub field : {A : Type 0} → List ℕ → ℕ → (ℕ → Bool) → ℕ → Judgement A → Judgement A
@@ -19,7 +14,7 @@ field bytes place broken number after = present bytes (place + 4) (ruled (broken
 
 -- "count 2, then divisor and model", then the "operation count"
 abbrev pub headOf : List ℕ → Head
-headOf bytes = record { divisor = numberAt bytes 4; model = modelOf (numberAt bytes 8); operations = numberAt bytes 12 }
+headOf bytes = record { divisor = numberAt bytes 4; model = modelNumbered (numberAt bytes 8); operations = numberAt bytes 12 }
 
 -- 10 "settings count not 2"; "A zero divisor is 3."; 14 "a trace's model ... breaks its rule"; 11 "operation count above 4,096"
 unfoldable pub readHead : List ℕ → Judgement Head

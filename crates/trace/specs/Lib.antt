@@ -1,5 +1,4 @@
 pub mod Judgement
-pub mod Number
 pub mod Head
 pub mod Rule
 pub mod Operation

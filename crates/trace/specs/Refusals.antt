@@ -4,7 +4,7 @@ use mathlib.Core.List.{List, [], _∷_, _++_}
 use mathlib.Core.Logic.{_⊎_}
 use mathlib.Core.Path.{_≡_}
 use lib.ListN.{length, getD}
-use Rattle.trace.specs.Number.{numberAt}
+use Rattle.numbers.specs.Number.{numberAt}
 use Rattle.trace.specs.Operation.{placeOf}
 
 -- a number of the table, "P the field's offset", and its "Given exactly when"

@@ -1,10 +1,10 @@
 // The settings and the operation count: four numbers, each first there and then by its rule.
 use crate::Fault;
-use crate::field::number_at;
 use channel::PitType;
+use numbers::number_at;
 use refusal::Refusal;
 ghost use mathlib.Core.Path.{_≡_};
-ghost use Rattle.trace.specs.Head.{modelOf, readHead};
+ghost use Rattle.trace.specs.Head.{readHead};
 ghost use Rattle.trace.specs.Answer.{headJudged};
 
 pub struct Head {
@@ -17,15 +17,6 @@ pub struct Head {
 pub enum Judged {
     Sound(Head),
     Refused(Fault),
-}
-
-fn model_of(number: u32) -> PitType
-    ensures { λ r. ⌜ r ≡ modelOf number ⌝ }
-{
-    if number == 0 {
-        return PitType::Model8253;
-    }
-    PitType::Model8254
 }
 
 fn refused(refusal: Refusal, place: usize) -> Judged
@@ -65,7 +56,7 @@ pub fn read_head(bytes: &[u8]) -> Judged
     if 4096 < operations {
         return refused(Refusal::TooManyOperations, 12);
     }
-    let model = model_of(model);
+    let model = PitType::numbered(model);
     Judged::Sound(Head {
         divisor,
         model,

@@ -2,7 +2,6 @@
 //
 // The form is checked from the front in three parts: the head (head.rt), each operation (operation.rt, by the rules of rule.rt) and what follows the
 // last one (judging.rt).
-mod field;
 pub mod head;
 mod judging;
 pub mod operation;

@@ -1,8 +1,8 @@
 // One operation: six bytes, its rule, and what it asks for.
 use crate::Fault;
-use crate::field::number_at;
 use crate::rule::Rule;
 use crate::rule::broken_rule;
+use numbers::number_at;
 use refusal::Refusal;
 use time::SystemTicks;
 ghost use mathlib.Core.Path.{_≡_};

@@ -1,9 +1,10 @@
-//! The original pit.rs of MartyPC, compiled from its unchanged text, and what runs it on records of bytes.
+//! The original pit.rs of MartyPC, compiled from its unchanged text, and what runs it on records and boards of bytes.
 //!
 //! `bus`, `cpu_common` and `updatable` stand for the modules of MartyPC that the text names; each says what it leaves out.
 
 pub mod bus;
 pub mod cpu_common;
+pub mod panics;
 pub mod pit;
 pub mod updatable;
 

@@ -4,7 +4,12 @@
 include!(env!("PIT_RS_TEXT"));
 
 pub mod added;
+pub mod board;
+pub mod board_operation;
+pub mod board_time;
 pub mod control;
 pub mod operation;
 pub mod record;
+pub mod remembered;
+pub mod standing_board;
 pub mod stands;

@@ -5,6 +5,7 @@ use super::operation::{model, Operation, Oracle};
 use super::record::{dump, load, Record};
 use super::*;
 use crate::bus::Call;
+use crate::panics::caught;
 
 pub fn fresh(ptype: PitType) -> Record {
     dump(&Channel::new(0, ptype))
@@ -33,11 +34,7 @@ pub fn calls_of(start: &Record, op: Operation) -> Vec<Call> {
     oracle.bus.calls().collect()
 }
 
-/// Whether the conversion from a number to a mode panics. The panic's message is kept from the output.
+/// Whether the conversion from a number to a mode panics.
 pub fn mode_panics(number: u8) -> bool {
-    let hook = std::panic::take_hook();
-    std::panic::set_hook(Box::new(|_| {}));
-    let panics = std::panic::catch_unwind(|| ChannelMode::from(number)).is_err();
-    std::panic::set_hook(hook);
-    panics
+    caught(|| ChannelMode::from(number)).is_err()
 }

@@ -40,7 +40,7 @@ returns-8 c = simp (c .refused8 .ensures, lt-ltb _ _ (c .before .if8 .taken), sy
 
 returns-9 : tie.Need-returns-9
 unfolding readHead
-returns-9 c = simp (c .model-of .ensures, le-ltb _ _ (c .before .if8 .left), sym (c .before .before .number-at4 .ensures), le-ltb _ _ (c .before .before .before .if7 .left), le-ltb _ _ (c .before .before .before .before .if6 .left), sym (c .before .before .before .before .before .number-at3 .ensures), le-ltb _ _ (c .before .before .before .before .before .before .if5 .left), ne-eqb _ _ (c .before .before .before .before .before .before .before .if4 .left), sym (c .before .before .before .before .before .before .before .before .number-at2 .ensures), le-ltb _ _ (c .before .before .before .before .before .before .before .before .before .if3 .left), eq-eqb _ _ (c .before .before .before .before .before .before .before .before .before .before .if2 .left), sym (c .before .before .before .before .before .before .before .before .before .before .before .number-at .ensures), le-ltb _ _ (c .before .before .before .before .before .before .before .before .before .before .before .before .if1 .left))
+returns-9 c = simp (c .numbered .ensures, le-ltb _ _ (c .before .if8 .left), sym (c .before .before .number-at4 .ensures), le-ltb _ _ (c .before .before .before .if7 .left), le-ltb _ _ (c .before .before .before .before .if6 .left), sym (c .before .before .before .before .before .number-at3 .ensures), le-ltb _ _ (c .before .before .before .before .before .before .if5 .left), ne-eqb _ _ (c .before .before .before .before .before .before .before .if4 .left), sym (c .before .before .before .before .before .before .before .before .number-at2 .ensures), le-ltb _ _ (c .before .before .before .before .before .before .before .before .before .if3 .left), eq-eqb _ _ (c .before .before .before .before .before .before .before .before .before .before .if2 .left), sym (c .before .before .before .before .before .before .before .before .before .before .before .number-at .ensures), le-ltb _ _ (c .before .before .before .before .before .before .before .before .before .before .before .before .if1 .left))
 
 pub read-head-spec : {M : Type 1} → statement M
 read-head-spec =

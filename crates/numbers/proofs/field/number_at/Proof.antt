@@ -1,4 +1,4 @@
--- `trace::field::number_at` meets its contract. Assumes nothing.
+-- `numbers::field::number_at` meets its contract. Assumes nothing.
 use Prim.Native.Nat.{ℕ, _+_, _≤_}
 use mathlib.Core.Path.{_≡_}
 use native.Mathlib.Nat.{add-assoc}
@@ -6,9 +6,9 @@ use native.Mathlib.Omega.{arith}
 use denote.Ref.{now}
 use lib.ListN.{length, getD, List·getD-eq-default}
 use borrow.Author.Needs.{needs}
-use Rattle.trace.specs.Number.{numberAt}
-use Rattle.trace.proofs.field.number_at.Statement.{statement}
-use Rattle.trace.proofs.field.number_at.Tie as tie
+use Rattle.numbers.specs.Number.{numberAt}
+use Rattle.numbers.proofs.field.number_at.Statement.{statement}
+use Rattle.numbers.proofs.field.number_at.Tie as tie
 
 returns : tie.Need-returns
 unfolding numberAt

@@ -1,10 +1,10 @@
--- `trace::field::byte_at` meets its contract. Assumes nothing.
+-- `numbers::field::byte_at` meets its contract. Assumes nothing.
 use mathlib.Core.Path.{sym}
 use denote.Ref.{now}
 use lib.ListN.{List·getD-eq-default}
 use borrow.Author.Needs.{needs}
-use Rattle.trace.proofs.field.byte_at.Statement.{statement}
-use Rattle.trace.proofs.field.byte_at.Tie as tie
+use Rattle.numbers.proofs.field.byte_at.Statement.{statement}
+use Rattle.numbers.proofs.field.byte_at.Tie as tie
 
 returns-2 : tie.Need-returns-2
 returns-2 c = sym (List·getD-eq-default (now (c .before .args .bytes)) 0 (c .if1 .left))

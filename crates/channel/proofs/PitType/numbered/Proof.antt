@@ -1,0 +1,13 @@
+-- `channel::PitType::numbered` meets its contract. Assumes nothing.
+use borrow.Author.Tests.{eq-eqb, ne-eqb}
+use Rattle.channel.proofs.PitType.numbered.Statement.{statement}
+use Rattle.channel.proofs.PitType.numbered.Tie as tie
+
+returns : tie.Need-returns
+returns c = simp (eq-eqb _ _ (c .if1 .taken))
+
+returns-2 : tie.Need-returns-2
+returns-2 c = simp (ne-eqb _ _ (c .if1 .left))
+
+pub numbered-spec : {M : Type 1} → statement M
+numbered-spec = tie.close (tie.spec returns returns-2)

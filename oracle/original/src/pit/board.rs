@@ -1,0 +1,82 @@
+//! The original's timer as the 101 bytes of docs/ENCODING.md, in both directions.
+//!
+//! A load gives the board's model to the timer and to its three channels. What document 01 leaves behind (`pit_cycles`, `chan1_source`, the
+//! speaker, the fraction of the microsecond branch) stays as it is in the timer and is in no dump.
+
+use super::operation::model;
+use super::record::{self, Record};
+use super::*;
+
+pub type Board = [u8; 101];
+
+/// The places of what the board itself holds, behind its three records.
+pub const MODEL: usize = 87;
+pub const DIVISOR: usize = 88;
+pub const REMAINDER: usize = 92;
+pub const WARP: usize = 96;
+pub const DEFER: usize = 100;
+
+pub fn load(board: &Board, timer: &mut ProgrammableIntervalTimer) {
+    timer.ptype = model(board[MODEL]);
+    for c in 0..3 {
+        timer.channels[c] = record::load(&record_of(board, c), c, timer.ptype);
+    }
+    load_time(board, timer);
+}
+
+/// All but the channels and the model.
+pub(super) fn load_time(board: &Board, timer: &mut ProgrammableIntervalTimer) {
+    timer.clock_divisor = number_at(board, DIVISOR);
+    timer.sys_tick_accumulator = number_at(board, REMAINDER);
+    timer.timewarp = DeviceRunTimeUnit::SystemTicks(number_at(board, WARP));
+    timer.defer_reload_flag = board[DEFER] == 1;
+}
+
+pub fn dump(timer: &ProgrammableIntervalTimer) -> Board {
+    let mut board = [0; 101];
+    for c in 0..3 {
+        board[29 * c..29 * c + 29].copy_from_slice(&record::dump(&timer.channels[c]));
+    }
+    board[MODEL] = (timer.ptype == PitType::Model8254).into();
+    put_number(&mut board, DIVISOR, timer.clock_divisor);
+    put_number(&mut board, REMAINDER, timer.sys_tick_accumulator);
+    put_number(&mut board, WARP, warp(timer));
+    board[DEFER] = timer.defer_reload_flag.into();
+    board
+}
+
+/// The warp in system ticks. Only the microsecond branch, which is not driven, would leave another unit.
+pub(super) fn warp(timer: &ProgrammableIntervalTimer) -> u32 {
+    match timer.timewarp {
+        DeviceRunTimeUnit::SystemTicks(ticks) => ticks,
+        DeviceRunTimeUnit::Microseconds(_) => panic!("a warp in microseconds"),
+    }
+}
+
+/// Whether each channel still has its number and the board's model, which a dump takes for granted.
+pub(super) fn in_place(timer: &ProgrammableIntervalTimer) -> bool {
+    timer.channels.len() == 3 && timer.channels.iter().enumerate().all(|(c, channel)| channel.c == c && channel.ptype == timer.ptype)
+}
+
+/// The fresh board by document 01: "A fresh board has remainder and warp 0 and defer flag false."
+pub fn fresh(model_number: u8, divisor: u32) -> Board {
+    let mut board = [0; 101];
+    for c in 0..3 {
+        board[29 * c..29 * c + 29].copy_from_slice(&record::dump(&added::fresh(c, model(model_number))));
+    }
+    board[MODEL] = model_number;
+    put_number(&mut board, DIVISOR, divisor);
+    board
+}
+
+pub fn record_of(board: &Board, c: usize) -> Record {
+    board[29 * c..29 * c + 29].try_into().expect("29 bytes")
+}
+
+pub fn number_at(board: &Board, place: usize) -> u32 {
+    u32::from_le_bytes(board[place..place + 4].try_into().expect("4 bytes"))
+}
+
+pub fn put_number(board: &mut Board, place: usize, number: u32) {
+    board[place..place + 4].copy_from_slice(&number.to_le_bytes());
+}
