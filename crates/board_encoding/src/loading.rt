@@ -7,15 +7,30 @@ use time::SystemTicks;
 ghost use mathlib.Core.Path.{_≡_};
 ghost use Prim.Native.Nat.{_≤_};
 ghost use lib.ListN.{length};
-ghost use Rattle.board_encoding.specs.Loaded.{ownReadable, boardOf, loadBoard};
+ghost use Rattle.board_encoding.specs.Loaded.{none, ownReadable, boardOf, loadBoard};
 
 // What loading a board finds.
-pub enum BoardLoaded {
-    Whole(Board),
+pub enum Found {
+    Whole,
     // Fewer bytes than a board has.
     Short,
     // A byte above its limit.
     Unreadable,
+}
+
+// Beside anything but a whole board stands the fresh 8253 with divisor 0, whose time calls are all refused. An enum that carries the board
+// would be the plainer form; the prover's walk does not cover an enum that holds an array.
+pub struct BoardLoaded {
+    pub found: Found,
+    pub board: Board,
+}
+
+fn none(found: Found) -> BoardLoaded
+    ensures { λ r. ⌜ r ≡ none found ⌝ }
+{
+    let made = Board::new(PitType::Model8253, 0);
+    let board = made.board;
+    BoardLoaded { found, board }
 }
 
 // The bytes of the board's model and defer flag.
@@ -56,22 +71,26 @@ pub fn load_board(bytes: &[u8]) -> BoardLoaded
     ensures { λ r. ⌜ r ≡ loadBoard (now (bytes .entry)) ⌝ }
 {
     if bytes.len() < 101 {
-        return BoardLoaded::Short;
+        return none(Found::Short);
     }
     let first = encoding::load_channel(&bytes[0..29]);
     let Loaded::Whole(c0) = first else {
-        return BoardLoaded::Unreadable;
+        return none(Found::Unreadable);
     };
     let second = encoding::load_channel(&bytes[29..58]);
     let Loaded::Whole(c1) = second else {
-        return BoardLoaded::Unreadable;
+        return none(Found::Unreadable);
     };
     let third = encoding::load_channel(&bytes[58..87]);
     let Loaded::Whole(c2) = third else {
-        return BoardLoaded::Unreadable;
+        return none(Found::Unreadable);
     };
     if own_readable(bytes) {
-        return BoardLoaded::Whole(board_of(c0, c1, c2, bytes));
+        let board = board_of(c0, c1, c2, bytes);
+        return BoardLoaded {
+            found: Found::Whole,
+            board,
+        };
     }
-    BoardLoaded::Unreadable
+    none(Found::Unreadable)
 }

@@ -10,7 +10,7 @@ pub struct Field {
     pub limit: u32,
 }
 
-const fn field(name: &'static str, place: usize, width: usize, limit: u32) -> Field {
+pub const fn field(name: &'static str, place: usize, width: usize, limit: u32) -> Field {
     Field { name, place, width, limit }
 }
 
@@ -75,13 +75,14 @@ impl Field {
         FIELDS.iter().find(|field| field.name == name)
     }
 
-    pub fn get(&self, record: &Record) -> u32 {
+    /// The field of a record, or of whatever has a record at its front.
+    pub fn get(&self, record: &[u8]) -> u32 {
         let mut bytes = [0; 4];
         bytes[..self.width].copy_from_slice(&record[self.place..self.place + self.width]);
         u32::from_le_bytes(bytes)
     }
 
-    pub fn put(&self, record: &mut Record, value: u32) {
+    pub fn put(&self, record: &mut [u8], value: u32) {
         record[self.place..self.place + self.width].copy_from_slice(&value.to_le_bytes()[..self.width]);
     }
 

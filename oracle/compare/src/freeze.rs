@@ -5,8 +5,9 @@
 
 use crate::exhaustive::{ACCESSES, FLAG, MODES, STATES};
 use crate::fields::*;
+use crate::frame::Frame;
 use crate::operations::{operation, NAMES};
-use crate::ours::{Frame, Ours};
+use crate::ours::Ours;
 use crate::random::Random;
 use original::pit::operation::{Operation, Oracle};
 use original::pit::record::Record;

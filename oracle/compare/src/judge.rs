@@ -2,10 +2,14 @@
 //! its record is what a chain of operations goes on from.
 
 use crate::fields::{differing, FIELDS, OUTPUT};
+use crate::frame::Frame;
 use crate::operations;
-use crate::ours::{Frame, Ours, MOST};
+use crate::ours::{Call, Ours};
 use original::pit::operation::{fresh, Operation, Oracle, Outcome};
 use original::pit::record::Record;
+
+/// Calls that are made at a time.
+const MOST: usize = Frame::AT_A_TIME;
 
 /// Differences of one operation that are printed; all are counted.
 const PRINTED: u64 = 2;
@@ -16,9 +20,9 @@ struct Waiting {
     outcome: Outcome,
 }
 
-pub struct Judge {
+pub struct Judge<'a> {
     pub oracle: Oracle,
-    pub ours: Ours,
+    pub ours: &'a mut Ours,
     waiting: Vec<Waiting>,
     frames: Vec<Frame>,
     /// Operations compared, by their place in the table of names.
@@ -32,8 +36,8 @@ pub struct Judge {
     seen: [u64; operations::NAMES.len()],
 }
 
-impl Judge {
-    pub fn new(ours: Ours) -> Self {
+impl<'a> Judge<'a> {
+    pub fn new(ours: &'a mut Ours) -> Self {
         let (waiting, frames) = (Vec::with_capacity(MOST), Vec::with_capacity(MOST));
         let compared = [0; operations::NAMES.len()];
         Self { oracle: Oracle::default(), ours, waiting, frames, compared, refused: 0, fresh: 0, differ: 0, said: 0, seen: compared }

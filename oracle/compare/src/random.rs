@@ -21,6 +21,16 @@ impl Random {
         z ^ (z >> 31)
     }
 
+    /// One of these, each as likely.
+    pub fn one_of<T: Copy>(&mut self, these: &[T]) -> T {
+        these[self.below(these.len() as u64) as usize]
+    }
+
+    /// Whether one chance in so many comes up.
+    pub fn one_in(&mut self, many: u64) -> bool {
+        self.below(many) == 0
+    }
+
     /// A number below some bound. The bounds are small, so the remainder's lean to low numbers does not matter.
     pub fn below(&mut self, bound: u64) -> u64 {
         self.next() % bound

@@ -2,9 +2,9 @@
 //! judged by ENCODING.md alone. The fresh channel is here too.
 
 use crate::fields::FIELDS;
+use crate::frame::{Frame, ANSWER_ROOM, RECORD_ROOM};
 use crate::judge::Judge;
 use crate::operations::{allowed, operation, place, show, NAMES};
-use crate::ours::{Frame, ANSWER_ROOM, RECORD_ROOM};
 use crate::random::Random;
 use original::pit::operation::fresh;
 use original::pit::record::Record;

@@ -1,0 +1,112 @@
+//! Every port and channel number, every control and data byte, every gate edge at every event room and place, and every time call at the edges of warp,
+//! divisor and the 32 bits.
+
+use crate::board_fields::BoardField;
+use crate::board_judge::BoardJudge;
+use crate::board_operations::{operation, NAMES};
+use crate::fields::{ELEMENT, GATE, MODE, OUTPUT, STATE};
+use crate::random::Random;
+use original::pit::board::{fresh, put_number, Board, DEFER, DIVISOR, MODEL, REMAINDER, WARP};
+use original::pit::board_operation::{BoardOperation, Events};
+
+const ROOMS: std::ops::RangeInclusive<u8> = 0..=6;
+const ROOMY: Events = Events { bytes: [0xEE; 8], len: 8 };
+
+/// Divisors, and numbers of ticks, at which something changes.
+const DIVISORS: [u32; 14] = [0, 1, 2, 3, 4, 5, 11, 12, 13, 4_096, 65_536, 0x7FFF_FFFF, 0xFFFF_FFFE, 0xFFFF_FFFF];
+const SPANS: [u32; 14] = [0, 1, 2, 3, 11, 12, 13, 24, 25, 0x7FFF_FFFF, 0x8000_0000, 0xFFFF_FFFD, 0xFFFF_FFFE, 0xFFFF_FFFF];
+
+pub fn run(judge: &mut BoardJudge) {
+    targets(judge);
+    bytes(judge);
+    gates(judge);
+    counts(judge);
+    times(judge);
+    judge.settle();
+}
+
+/// All 65,536 ports and channels, each on a board of its own.
+fn targets(judge: &mut BoardJudge) {
+    let mut random = Random(21);
+    for (code, target) in [1, 2, 3, 4, 5, 17, 18, 19, 20].iter().flat_map(|code| (0..=0xFFFF).map(move |target| (*code, target))) {
+        let number = if matches!(code, 1 | 3 | 4) { random.below(2) as u32 } else { 0 };
+        judge.ask(&random.board(), &ROOMY, operation(code, target, number));
+    }
+}
+
+/// The rooms of event bytes with the places in them, at their end and past it.
+fn rooms_and_places() -> impl Iterator<Item = (u8, u64)> {
+    let past = |room: u8| (0..=u64::from(room) + 2).chain([1 << 32, u64::MAX]);
+    ROOMS.flat_map(move |room| past(room).map(move |place| (room, place)))
+}
+
+/// Every byte to every port, on both models, deferred and not; each with every room and place on some board.
+fn bytes(judge: &mut BoardJudge) {
+    let mut random = Random(22);
+    for (port, byte) in (0x40..=0x43).flat_map(|port| (0..=255).map(move |byte| (port, byte))) {
+        for (model, defer) in [(0, 0), (0, 1), (1, 0), (1, 1)] {
+            for (room, place) in rooms_and_places() {
+                let mut board = random.board();
+                (board[MODEL], board[DEFER]) = (model, defer);
+                let events = Events { bytes: random.next().to_le_bytes(), len: room };
+                judge.ask(&board, &events, BoardOperation { place, ..operation(1, port, byte) });
+            }
+        }
+    }
+}
+
+/// Every edge and every level that stands, on every channel, in every mode and state, with every room and place.
+fn gates(judge: &mut BoardJudge) {
+    let mut random = Random(23);
+    let combinations = (0..3).flat_map(|c| (0..6).flat_map(move |mode| (0..7).map(move |state| (c, mode, state))));
+    for (c, mode, state) in combinations {
+        for (levels, (room, place)) in (0..8).flat_map(|levels| rooms_and_places().map(move |at| (levels, at))) {
+            let mut board = random.board();
+            let record = &mut board[29 * usize::from(c)..];
+            for (field, value) in [(MODE, mode), (STATE, state), (GATE, levels & 1), (OUTPUT, levels >> 1 & 1)] {
+                field.put(record, value);
+            }
+            let events = Events { bytes: random.next().to_le_bytes(), len: room };
+            judge.ask(&board, &events, BoardOperation { place, ..operation(3, c, levels >> 2) });
+        }
+    }
+}
+
+/// Numbers of counts at and beside the limit, and such as go round, from several elements in both radixes.
+fn counts(judge: &mut BoardJudge) {
+    let mut random = Random(24);
+    let numbers = [0, 1, 2, 3, 9, 10, 11, 99, 100, 9_999, 10_000, 10_001, 65_535, 65_536, 65_537, 65_538, 131_072, u32::MAX];
+    for (number, c) in numbers.iter().flat_map(|number| (0..3).map(move |c| (*number, c))) {
+        for (element, bcd) in [0, 1, 0x10, 0x1000, 0x9999, 0xABCD, 0xFFFF].iter().flat_map(|element| [(element, 0), (element, 1)]) {
+            let mut board = random.board();
+            ELEMENT.put(&mut board[29 * usize::from(c)..], *element);
+            BoardField::named(&format!("bcd_mode:{c}")).expect("a field").put(&mut board, bcd);
+            judge.ask(&board, &ROOMY, operation(4, c, number));
+        }
+    }
+}
+
+/// Both time calls, over divisors, remainders, warps and ticks; and all other operations on boards with these numbers, which must leave them alone.
+fn times(judge: &mut BoardJudge) {
+    for (divisor, remainder) in DIVISORS.iter().flat_map(|divisor| SPANS.iter().map(move |remainder| (*divisor, *remainder))) {
+        for (warp, defer) in SPANS.iter().flat_map(|warp| [(*warp, 0), (*warp, 1)]) {
+            let board = timed([divisor, remainder, warp], defer);
+            for ticks in SPANS {
+                judge.ask(&board, &ROOMY, operation(6, 0, ticks));
+                judge.ask(&board, &ROOMY, operation(7, 0, ticks));
+            }
+            for (code, _) in NAMES.iter().filter(|(code, _)| !matches!(code, 6 | 7)) {
+                judge.ask(&board, &ROOMY, operation(*code, if *code <= 2 { 0x40 } else { 0 }, 0));
+            }
+        }
+    }
+}
+
+fn timed(numbers: [u32; 3], defer: u8) -> Board {
+    let mut board = fresh(0, 1);
+    for (place, number) in [DIVISOR, REMAINDER, WARP].iter().zip(numbers) {
+        put_number(&mut board, *place, number);
+    }
+    board[DEFER] = defer;
+    board
+}
