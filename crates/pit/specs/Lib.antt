@@ -1,1 +1,4 @@
-pub mod Outcome
+pub mod Answer
+pub mod Channel
+pub mod Board
+pub mod Trace

@@ -1,13 +1,16 @@
-// What a host that is not written in Rattle links: a channel's record in bytes, one operation at a time. docs/ENCODING.md has the byte forms
-// and the numbers returned.
-use channel::Channel;
-use encoding::loading::Loaded;
-use operation::asked::Asked;
-use operation::making::Made;
-ghost use mathlib.Core.Path.{_≡_};
-ghost use lib.ListN.{length};
-ghost use Rattle.encoding.specs.Front.{putFront};
-ghost use Rattle.pit.specs.Outcome.{outcomeOf, answerBytes, recordBytes, Settles, freshStatus, freshAfter};
+// What a host that is not written in Rattle links: a channel's record or a board in bytes, one operation at a time, and whole traces. docs/ENCODING.md
+// has the byte forms and the numbers returned.
+mod answering;
+pub mod board_calls;
+pub mod channel_calls;
+pub mod trace_calls;
+
+pub use board_calls::pit_board_new;
+pub use board_calls::pit_board_operation;
+pub use channel_calls::pit_channel_fresh;
+pub use channel_calls::pit_channel_operation;
+pub use trace_calls::pit_answers;
+pub use trace_calls::pit_replay;
 
 const SHORT_RECORD: u32 = 101;
 
@@ -17,92 +20,4 @@ const UNKNOWN_OPERATION: u32 = 103;
 
 const SHORT_ANSWER: u32 = 104;
 
-// What an operation comes to, before anything is stored.
-pub enum Outcome {
-    Refused(u32),
-    Done(Made),
-}
-
-// Room is the number of bytes lent for the answer.
-fn outcome_of(bytes: &[u8], room: usize, code: u8, number: u8, setting: u8) -> Outcome
-    ensures { λ r. ⌜ r ≡ outcomeOf (now (bytes .entry)) room code number setting ⌝ }
-{
-    let loaded = encoding::load_channel(bytes);
-    match loaded {
-        Loaded::Short => Outcome::Refused(SHORT_RECORD),
-        Loaded::Unreadable => Outcome::Refused(UNREADABLE_RECORD),
-        Loaded::Whole(c) => {
-            let asked = operation::operation_of(code, number, setting);
-            match asked {
-                Asked::Unknown => Outcome::Refused(UNKNOWN_OPERATION),
-                Asked::Known(op) => {
-                    if room < 7 {
-                        return Outcome::Refused(SHORT_ANSWER);
-                    }
-                    Outcome::Done(operation::operate(c, op))
-                }
-            }
-        }
-    }
-}
-
-fn answer_bytes(made: Made) -> [u8; 7]
-    ensures { λ r. ⌜ r ≡ answerBytes made ⌝ }
-{
-    let c = made.channel;
-    let level = numbers::flag_byte(c.get_output_state());
-    let first = encoding::two_bytes(made.first);
-    let second = encoding::two_bytes(made.second);
-    let third = encoding::two_bytes(made.third);
-    [
-        level,
-        first[0],
-        first[1],
-        second[0],
-        second[1],
-        third[0],
-        third[1],
-    ]
-}
-
-fn write_back(bytes: &mut [u8], answer: &mut [u8], made: Made)
-    ensures { λ _. ⌜ (now (bytes .exit) ≡ putFront (recordBytes made) (now (bytes .entry))) × (now (answer .exit) ≡ putFront (answerBytes made) (now (answer .entry))) ⌝ }
-{
-    let c = made.channel;
-    let next = encoding::channel_bytes(c);
-    encoding::put_front(bytes, &next);
-    let answered = answer_bytes(made);
-    encoding::put_front(answer, &answered);
-}
-
-#[no_mangle]
-pub extern "C" fn pit_channel_operation(
-    bytes: &mut [u8],
-    answer: &mut [u8],
-    code: u8,
-    number: u8,
-    setting: u8,
-) -> u32
-    ensures { λ r. ⌜ Settles (outcomeOf (now (bytes .entry)) (length (now (answer .entry))) code number setting) (now (bytes .entry)) (now (answer .entry)) r (now (bytes .exit)) (now (answer .exit)) ⌝ }
-{
-    let room = answer.len();
-    let outcome = outcome_of(bytes, room, code, number, setting);
-    match outcome {
-        Outcome::Refused(n) => n,
-        Outcome::Done(made) => {
-            write_back(bytes, answer, made);
-            0
-        }
-    }
-}
-
-#[no_mangle]
-pub extern "C" fn pit_channel_fresh(bytes: &mut [u8]) -> u32
-    ensures { λ r. ⌜ (r ≡ freshStatus (now (bytes .entry))) × (now (bytes .exit) ≡ freshAfter (now (bytes .entry))) ⌝ }
-{
-    let fresh = encoding::channel_bytes(Channel::fresh());
-    if encoding::put_front(bytes, &fresh) {
-        return 0;
-    }
-    SHORT_RECORD
-}
+const SHORT_OUT: u32 = 105;

@@ -1,30 +1,46 @@
--- Document 01, "Recorded traces": the whole of what the replay program prints, from the bytes that it reads.
+-- Document 01, "Recorded traces": the whole of what the replay program prints, from the bytes that it reads. The answers in bytes (Answers.antt) are said in the
+-- place of the lines.
 use Prim.Native.Nat.{ℕ, suc, _≤_}
 use mathlib.Core.List.{List, [], _∷_, _++_}
 use mathlib.Core.Path.{_≡_}
 use lib.ListN.{length, drop}
+use Rattle.refusal.specs.Reply.{Reply}
 use Rattle.trace.specs.declared.operation.Operation.{Operation}
 use Rattle.trace.specs.Judgement.{Judgement, refusedAt, sound}
 use Rattle.trace.specs.Trace.{Trace, readTrace}
 use Rattle.board.specs.declared.Board.{Board}
-use Rattle.board.specs.Outcome.{Outcome}
+use Rattle.board.specs.Outcome.{Value, Outcome}
 use Rattle.board.specs.Making.{fresh}
+use Rattle.line.specs.Line.{lineRoom}
 use Rattle.line.specs.Lines.{headLine, operationLine, endLine, faultLine}
 use Rattle.turn.specs.Made.{make}
+use Rattle.runner.specs.declared.Form.{Form}
+use Rattle.runner.specs.declared.Form.the-variants.{Lines, Answers}
+use Rattle.runner.specs.Answers.{answerBytes}
 
--- "one line for each operation (its index, then ...)"; what is `left` is the remainder after the operation
-abbrev pub lineOfOutcome : ℕ → Outcome → List ℕ
-lineOfOutcome index o = operationLine index (o .reply) (o .events) (o .board .remainder .0)
+-- "one line for each operation (its index, then ...)"; or its answer, which has no index
+abbrev pub said : Form → ℕ → Reply Value → List ℕ → ℕ → List ℕ
+said Lines index reply events left = operationLine index reply events left
+said Answers index reply events left = answerBytes reply events left
 
--- the lines of a list of operations, from a board and a first index on
-abbrev pub linesFrom : Board → ℕ → List Operation → List ℕ
-linesFrom b index [] = []
-linesFrom b index (o ∷ os) = lineOfOutcome index (make b o) ++ linesFrom (make b o .board) (suc index) os
+-- no line is longer than 48 bytes, and an answer has 12
+abbrev pub roomOf : Form → ℕ
+roomOf Lines = lineRoom
+roomOf Answers = 12
+
+-- what is said of an operation's outcome; what is `left` is the remainder after the operation
+abbrev pub saidOf : Form → ℕ → Outcome → List ℕ
+saidOf form index o = said form index (o .reply) (o .events) (o .board .remainder .0)
+
+-- what is said of a list of operations, from a board and a first index on
+abbrev pub toldFrom : Form → Board → ℕ → List Operation → List ℕ
+toldFrom form b index [] = []
+toldFrom form b index (o ∷ os) = saidOf form index (make b o) ++ toldFrom form (make b o .board) (suc index) os
 
 -- "a head line, one line for each operation ..., and an end line with the operation count"
 abbrev pub printedTrace : Trace → List ℕ
 printedTrace t =
-    headLine (t .model) (t .divisor) ++ linesFrom (fresh (t .model) (t .divisor)) 0 (t .operations) ++ endLine (length (t .operations))
+    headLine (t .model) (t .divisor) ++ toldFrom Lines (fresh (t .model) (t .divisor)) 0 (t .operations) ++ endLine (length (t .operations))
 
 -- "a fault prints only `trace refused N at P`"
 abbrev pub printedJudgement : Judgement Trace → List ℕ

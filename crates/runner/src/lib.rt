@@ -1,10 +1,13 @@
-// The whole replay of a trace: from its bytes to the bytes that are printed. Nothing is put before the whole trace is judged.
+// The whole replay of a trace: from its bytes to the bytes that are printed, or to its answers in bytes. Nothing is put before the whole trace is judged.
 //
-// `lines` is the runner: one loop that owns the board and changes it where it stands. No function that the loop calls takes or hands back a board, and each arm ends
+// `tell` is the runner: one loop that owns the board and changes it where it stands. No function that the loop calls takes or hands back a board, and each arm ends
 // in its own `say`: arms that meet would have the board moved.
+mod answering;
+
 use board::Answer;
 use board::Board;
 use line::Line;
+use refusal::Refusal;
 use time::SystemTicks;
 use trace::head::Head;
 use trace::head::Judged;
@@ -20,7 +23,8 @@ ghost use Rattle.text.specs.Put.{put, answered};
 ghost use Rattle.trace.specs.Judgement.{sound};
 ghost use Rattle.trace.specs.Trace.{operationsFrom, traceOf};
 ghost use Rattle.trace.specs.Answer.{soundness, operationsOf};
-ghost use Rattle.runner.specs.Printed.{linesFrom, printedTrace, printed, Prints};
+ghost use Rattle.runner.specs.Printed.{said, roomOf, toldFrom, printedTrace, printed, Prints};
+ghost use Rattle.runner.specs.Lent.{replayed, replayInto, answersInto};
 ghost use Rattle.io.specs.Counts.{Counts};
 
 fn put_line(out: &mut [u8], place: usize, line: Line) -> usize
@@ -32,8 +36,15 @@ fn put_line(out: &mut [u8], place: usize, line: Line) -> usize
     text::put(out, place, &bytes[..len])
 }
 
-// An operation's line, put behind those that are there.
+// What is said of each operation: its line, or its answer in 12 bytes.
+pub enum Form {
+    Lines,
+    Answers,
+}
+
+// What is said of an operation, put behind what was said before.
 fn say(
+    form: Form,
     out: &mut [u8],
     place: usize,
     index: u32,
@@ -41,18 +52,34 @@ fn say(
     events: [u8; 2],
     left: SystemTicks,
 ) -> usize
-    ensures { λ r. ⌜ (answered r (now (out .exit)) ≡ put (operationLine index (replyOf answer) events (left .0)) (now (out .entry)) place) × (length (operationLine index (replyOf answer) events (left .0)) ≤ lineRoom) ⌝ }
+    ensures { λ r. ⌜ (answered r (now (out .exit)) ≡ put (said form index (replyOf answer) events (left .0)) (now (out .entry)) place) × (length (said form index (replyOf answer) events (left .0)) ≤ roomOf form) ⌝ }
 {
-    let line = line::operation_line(index, answer, events, left);
-    put_line(out, place, line)
+    match form {
+        Form::Lines => {
+            let line = line::operation_line(index, answer, events, left);
+            put_line(out, place, line)
+        }
+        Form::Answers => {
+            let bytes = answering::answer_bytes(answer, events, left);
+            text::put(out, place, &bytes)
+        }
+    }
 }
 
-// The lines of the operations from the first index on, as many as are asked for. A replay from the start begins at 0; one from a later board will not.
-fn lines(trace: &[u8], start: Board, first: u32, number: u32, out: &mut [u8], place: usize) -> usize
+// What is said of the operations from the first index on, as many as are asked for. A replay from the start begins at 0; one from a later board will not.
+fn tell(
+    form: Form,
+    trace: &[u8],
+    start: Board,
+    first: u32,
+    number: u32,
+    out: &mut [u8],
+    place: usize,
+) -> usize
     requires { ⌜ soundness (operationsFrom (now trace) first number) ≡ sound tt ⌝ }
     requires { ⌜ first + number ≤ 4096 ⌝ }
-    requires { ⌜ place + lineRoom * number ≤ length (now out) ⌝ }
-    ensures { λ r. ⌜ (answered r (now (out .exit)) ≡ put (linesFrom start first (operationsOf (operationsFrom (now (trace .entry)) first number))) (now (out .entry)) place) × (length (linesFrom start first (operationsOf (operationsFrom (now (trace .entry)) first number))) ≤ lineRoom * number) ⌝ }
+    requires { ⌜ place + roomOf form * number ≤ length (now out) ⌝ }
+    ensures { λ r. ⌜ (answered r (now (out .exit)) ≡ put (toldFrom form start first (operationsOf (operationsFrom (now (trace .entry)) first number))) (now (out .entry)) place) × (length (toldFrom form start first (operationsOf (operationsFrom (now (trace .entry)) first number))) ≤ roomOf form * number) ⌝ }
 {
     let mut b = start;
     let mut at = place;
@@ -77,7 +104,7 @@ fn lines(trace: &[u8], start: Board, first: u32, number: u32, out: &mut [u8], pl
                 b.channels[i] = next;
                 let answer = worked.answer;
                 let left = b.remainder;
-                at = say(out, at, index, answer, events, left);
+                at = say(form, out, at, index, answer, events, left);
             }
             Turn::Elapse(given, warp, defers) => {
                 let remainder = b.remainder;
@@ -97,7 +124,7 @@ fn lines(trace: &[u8], start: Board, first: u32, number: u32, out: &mut [u8], pl
                 b.warp = next;
                 b.defer = elapsed.defer;
                 let answer = elapsed.answer;
-                at = say(out, at, index, answer, events, left);
+                at = say(form, out, at, index, answer, events, left);
             }
             Turn::Reset => {
                 let c0 = b.channels[0];
@@ -106,20 +133,21 @@ fn lines(trace: &[u8], start: Board, first: u32, number: u32, out: &mut [u8], pl
                 let channels = [c0.reset(), c1.reset(), c2.reset()];
                 b.channels = channels;
                 let left = b.remainder;
-                at = say(out, at, index, Answer::Done, events, left);
+                at = say(form, out, at, index, Answer::Done, events, left);
             }
             Turn::Say(answer) => {
                 let left = b.remainder;
-                at = say(out, at, index, answer, events, left);
+                at = say(form, out, at, index, answer, events, left);
             }
         }
     }
     at
 }
 
-fn replay_sound(trace: &[u8], head: Head, out: &mut [u8; 196704]) -> usize
+fn replay_sound(trace: &[u8], head: Head, out: &mut [u8]) -> usize
     requires { ⌜ soundness (operationsFrom (now trace) 0 (head .operations)) ≡ sound tt ⌝ }
     requires { ⌜ head .operations ≤ 4096 ⌝ }
+    requires { ⌜ lineRoom * (head .operations + 2) ≤ length (now out) ⌝ }
     ensures { λ r. ⌜ Prints (printedTrace (traceOf head (operationsOf (operationsFrom (now (trace .entry)) 0 (head .operations))))) (now (out .entry)) r (now (out .exit)) ⌝ }
 {
     let model = head.model;
@@ -128,7 +156,7 @@ fn replay_sound(trace: &[u8], head: Head, out: &mut [u8; 196704]) -> usize
     let board = made.board;
     let first = line::head_line(model, head.divisor);
     let mut place = put_line(out, 0, first);
-    place = lines(trace, board, 0, number, out, place);
+    place = tell(Form::Lines, trace, board, 0, number, out, place);
     let last = line::end_line(number);
     put_line(out, place, last)
 }
@@ -147,5 +175,59 @@ pub fn replay(trace: &[u8], out: &mut [u8; 196704]) -> usize
             put_line(out, 0, line)
         }
         Judged::Sound(head) => replay_sound(trace, head, out),
+    }
+}
+
+// What comes of a replay into lent bytes: how many bytes were written to their front, the trace's refusal, or too few bytes lent. But for the first
+// no lent byte changes.
+pub enum Replayed {
+    Written(usize),
+    Refused(Refusal),
+    Short,
+}
+
+// What is printed, where the lent bytes have room for every line that the trace can have: 48 bytes for the head, for each operation and for the end, or 48
+// where the trace is refused.
+pub fn replay_into(trace: &[u8], out: &mut [u8]) -> Replayed
+    ensures { λ r. ⌜ replayed r (now (out .exit)) ≡ replayInto (now (trace .entry)) (now (out .entry)) ⌝ }
+{
+    let judged = trace::judge(trace);
+    match judged {
+        Judged::Refused(fault) => {
+            if out.len() < 48 {
+                return Replayed::Short;
+            }
+            let refusal = fault.refusal;
+            let line = line::fault_line(refusal, fault.place);
+            Replayed::Written(put_line(out, 0, line))
+        }
+        Judged::Sound(head) => {
+            if out.len() < 48 * (head.operations as usize + 2) {
+                return Replayed::Short;
+            }
+            Replayed::Written(replay_sound(trace, head, out))
+        }
+    }
+}
+
+// The answers of the operations, 12 bytes each, where the lent bytes have room for them.
+pub fn answers_into(trace: &[u8], out: &mut [u8]) -> Replayed
+    ensures { λ r. ⌜ replayed r (now (out .exit)) ≡ answersInto (now (trace .entry)) (now (out .entry)) ⌝ }
+{
+    let judged = trace::judge(trace);
+    match judged {
+        Judged::Refused(fault) => {
+            let refusal = fault.refusal;
+            Replayed::Refused(refusal)
+        }
+        Judged::Sound(head) => {
+            let number = head.operations;
+            if out.len() < 12 * (number as usize) {
+                return Replayed::Short;
+            }
+            let made = Board::new(head.model, head.divisor);
+            let board = made.board;
+            Replayed::Written(tell(Form::Answers, trace, board, 0, number, out, 0))
+        }
     }
 }

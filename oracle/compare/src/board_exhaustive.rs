@@ -13,7 +13,7 @@ const ROOMS: std::ops::RangeInclusive<u8> = 0..=6;
 const ROOMY: Events = Events { bytes: [0xEE; 8], len: 8 };
 
 /// Divisors, and numbers of ticks, at which something changes.
-const DIVISORS: [u32; 14] = [0, 1, 2, 3, 4, 5, 11, 12, 13, 4_096, 65_536, 0x7FFF_FFFF, 0xFFFF_FFFE, 0xFFFF_FFFF];
+const DIVISORS: [u32; 14] = [0, 1, 2, 3, 4, 5, 11, 12, 13, 65_536, 0x10_0000, 0x7FFF_FFFF, 0xFFFF_FFFE, 0xFFFF_FFFF];
 const SPANS: [u32; 14] = [0, 1, 2, 3, 11, 12, 13, 24, 25, 0x7FFF_FFFF, 0x8000_0000, 0xFFFF_FFFD, 0xFFFF_FFFE, 0xFFFF_FFFF];
 
 pub fn run(judge: &mut BoardJudge) {

@@ -4,7 +4,7 @@ use crate::board_fields::{all, differing};
 use crate::board_frame::BoardFrame;
 use crate::board_operations::{self, NAMES};
 use crate::ours::{Call, Ours};
-use original::pit::board::{fresh, number_at, Board, DIVISOR, MODEL};
+use original::pit::board::{fresh, Board};
 use original::pit::board_operation::{BoardOperation, BoardOracle, BoardOutcome, Events};
 
 /// Calls that are made at a time, and differences of one operation that are printed.
@@ -145,9 +145,4 @@ fn wrong(asked: &Waiting, reply: &BoardFrame) -> Option<&'static str> {
     } else {
         None
     }
-}
-
-/// What a board is made from: its model and its divisor.
-pub fn made_from(board: &Board) -> (u8, u32) {
-    (board[MODEL], number_at(board, DIVISOR))
 }

@@ -1,8 +1,10 @@
 //! Runs the smallest inputs of docs/DIFFERENCES.md, a file of oracle/differences for each. Its README has the words that a file may use.
 
+use crate::board_differences::BoardBench;
 use crate::fields::Field;
+use crate::frame::Frame;
 use crate::operations::operation;
-use crate::ours::{Frame, Ours};
+use crate::ours::Ours;
 use original::pit::operation::{fresh, model, Operation, Oracle};
 use original::pit::record::Record;
 use original::pit::stands;
@@ -59,17 +61,29 @@ pub fn run(calls: &mut Ours) -> Result<u64, String> {
 /// Hands back the file's first line, which says what it shows.
 fn run_file(calls: &mut Ours, path: &Path) -> Result<String, String> {
     let text = fs::read_to_string(path).map_err(|error| error.to_string())?;
-    let mut bench =
-        Bench { calls, oracle: Oracle::default(), as_it_stands: false, model: 0, ours: Side::on(fresh()), original: Side::on(fresh()) };
-    for (line, words) in text.lines().map(|line| line.split('#').next().unwrap_or_default()).enumerate() {
-        let words: Vec<&str> = words.split_whitespace().collect();
-        bench.line(&words).map_err(|why| format!("line {}: {why}", line + 1))?;
+    if text.lines().any(|line| line.split_whitespace().next() == Some("board")) {
+        let mut bench = BoardBench::new(calls);
+        each_line(&text, |words| bench.line(words))?;
+        bench.nothing_unseen()?;
+    } else {
+        let (oracle, ours, original) = (Oracle::default(), Side::on(fresh()), Side::on(fresh()));
+        let mut bench = Bench { calls, oracle, as_it_stands: false, model: 0, ours, original };
+        each_line(&text, |words| bench.line(words))?;
     }
     if !text.lines().any(|line| line.starts_with("expect ")) {
         return Err("it expects nothing".to_string());
     }
     let first = text.lines().next().and_then(|line| line.strip_prefix("# "));
     first.map(str::to_string).ok_or("no first line that says what it shows".to_string())
+}
+
+/// Runs the words of each line, without its comment. A `#` with nothing behind it is part of a message.
+fn each_line(text: &str, mut run: impl FnMut(&[&str]) -> Result<(), String>) -> Result<(), String> {
+    for (line, words) in text.lines().map(|line| line.split("# ").next().unwrap_or_default()).enumerate() {
+        let words: Vec<&str> = words.split_whitespace().collect();
+        run(&words).map_err(|why| format!("line {}: {why}", line + 1))?;
+    }
+    Ok(())
 }
 
 impl Bench<'_> {

@@ -14,7 +14,6 @@ use original::pit::record::Record;
 
 const CASES: usize = 3000;
 const CASE: usize = 68;
-const FROZEN: &str = concat!(env!("CARGO_MANIFEST_DIR"), "/../../crates/frozen/stdin");
 const SEED: u64 = 8254;
 
 /// Starts at which a decimal count borrows from one digit, two or three, or from a digit above 9, and some beside them.
@@ -62,7 +61,7 @@ fn sample() -> Vec<(Record, Operation)> {
 }
 
 /// The sample's bytes, with the original's answers.
-fn answered() -> Result<Vec<u8>, String> {
+pub fn answered() -> Result<Vec<u8>, String> {
     let mut oracle = Oracle::default();
     let mut bytes = Vec::new();
     for (record, op) in sample() {
@@ -76,20 +75,6 @@ fn answered() -> Result<Vec<u8>, String> {
         bytes.extend_from_slice(&outcome.answer);
     }
     Ok(bytes)
-}
-
-pub fn run(path: &str) -> Result<(), String> {
-    let bytes = answered()?;
-    std::fs::write(path, &bytes).map_err(|error| format!("{path}: {error}"))?;
-    println!("{} cases, {} bytes", bytes.len() / CASE, bytes.len());
-    Ok(())
-}
-
-/// Whether the frozen sample of the repository is what the original answers today.
-pub fn stands() -> Result<bool, String> {
-    let same = std::fs::read(FROZEN).map_err(|error| format!("crates/frozen/stdin: {error}"))? == answered()?;
-    println!("the frozen sample {} the original's answers", if same { "has" } else { "HAS NOT" });
-    Ok(same)
 }
 
 /// How many cases of a sample ours answers otherwise than it says.

@@ -32,22 +32,9 @@ mod calls {
                 target: u16,
                 number: u32,
             ) -> u32;
-            pub fn pit_replay(
-                trace: *const u8,
-                trace_len: usize,
-                out: *mut u8,
-                out_len: usize,
-                answer: *mut u8,
-                answer_len: usize,
-            ) -> u32;
-            pub fn pit_answers(
-                trace: *const u8,
-                trace_len: usize,
-                out: *mut u8,
-                out_len: usize,
-                answer: *mut u8,
-                answer_len: usize,
-            ) -> u32;
+            pub fn pit_replay(trace: *const u8, trace_len: usize, out: *mut u8, out_len: usize, answer: *mut u8, answer_len: usize) -> u32;
+            pub fn pit_answers(trace: *const u8, trace_len: usize, out: *mut u8, out_len: usize, answer: *mut u8, answer_len: usize)
+                -> u32;
         }
     }
 

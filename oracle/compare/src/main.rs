@@ -1,26 +1,47 @@
 //! Our timer against the original Rust, operation by operation. oracle/README.md says what is judged by what.
 
+mod board_differences;
+mod board_exhaustive;
+mod board_fields;
+mod board_frame;
+mod board_judge;
+mod board_operations;
+mod board_random;
+mod board_refusals;
 mod differences;
 mod exhaustive;
 mod fields;
+mod frame;
 mod freeze;
+mod freeze_boards;
+mod freeze_traces;
 mod judge;
+mod linked;
 mod operations;
 mod ours;
 mod random;
 mod refusals;
+mod samples;
+mod trace_frame;
+mod trace_judge;
+mod trace_random;
+mod trace_reader;
+mod trace_replay;
+mod whole_run;
 
-use judge::Judge;
 use ours::Ours;
 use std::process::ExitCode;
-use std::time::Instant;
 
-const USAGE: &str = "compare [N] [SEED]   N random operations, from a seed
-compare freeze FILE  write a sample of the original's answers
-compare replay FILE  hold ours against such a sample
-compare differences  run the inputs of docs/DIFFERENCES.md";
+const USAGE: &str = "compare [N] [SEED]          N random operations on channels and N on boards, from a seed
+compare freeze FILE         write a sample of the original's answers on channels
+compare freeze-boards FILE  the same on boards
+compare freeze-traces FILE  the same on traces
+compare replay FILE         hold ours against such a sample, of channels
+compare replay-boards FILE  the same on boards
+compare replay-traces FILE  the same on traces
+compare differences         run the inputs of docs/DIFFERENCES.md";
 
-/// Random operations where none are asked for: with the exhaustive part, more than twelve million.
+/// Random operations where none are asked for, on channels and as many on boards.
 const OPERATIONS: u64 = 11_000_000;
 const SEED: u64 = 8253;
 
@@ -30,16 +51,7 @@ fn main() -> ExitCode {
     }
     let words: Vec<String> = std::env::args().skip(1).collect();
     let words: Vec<&str> = words.iter().map(String::as_str).collect();
-    let done = match words[..] {
-        ["freeze", path] => freeze::run(path).map(|()| true),
-        ["replay", path] => freeze::replay(path).map(|differ| differ == 0),
-        ["differences"] => Ours::start().and_then(|mut ours| Ok(differences::run(&mut ours)? == 0)),
-        [] => compare(OPERATIONS, SEED),
-        [n] => number(n).and_then(|n| compare(n, SEED)),
-        [n, seed] => number(n).and_then(|n| compare(n, number(seed)?)),
-        _ => Err(USAGE.to_string()),
-    };
-    match done {
+    match done(&words) {
         Ok(true) => ExitCode::SUCCESS,
         Ok(false) => ExitCode::from(1),
         Err(why) => {
@@ -49,24 +61,25 @@ fn main() -> ExitCode {
     }
 }
 
-fn number(word: &str) -> Result<u64, String> {
-    word.parse().map_err(|_| format!("not a number: {word}\n{USAGE}"))
+/// Does what the words ask for, and hands back whether nothing differs.
+fn done(words: &[&str]) -> Result<bool, String> {
+    match *words {
+        ["freeze", path] => samples::write("frozen", path).map(|()| true),
+        ["freeze-boards", path] => samples::write("frozen_boards", path).map(|()| true),
+        ["freeze-traces", path] => samples::write("frozen_traces", path).map(|()| true),
+        ["replay", path] => freeze::replay(path).map(|differ| differ == 0),
+        ["replay-boards", path] => freeze_boards::replay(path).map(|differ| differ == 0),
+        ["replay-traces", path] => freeze_traces::replay(path).map(|differ| differ == 0),
+        ["differences"] => Ours::start().and_then(|mut ours| Ok(differences::run(&mut ours)? == 0)),
+        // What `differences` starts as a child, to see whether it comes back.
+        ["original-run", divisor, ticks] => board_differences::child(divisor, ticks).map(|()| true),
+        [] => whole_run::run(OPERATIONS, SEED),
+        [n] => number(n).and_then(|n| whole_run::run(n, SEED)),
+        [n, seed] => number(n).and_then(|n| whole_run::run(n, number(seed)?)),
+        _ => Err(USAGE.to_string()),
+    }
 }
 
-fn compare(operations: u64, seed: u64) -> Result<bool, String> {
-    let started = Instant::now();
-    let mut judge = Judge::new(Ours::start()?);
-    exhaustive::run(&mut judge);
-    random::run(&mut judge, operations, seed);
-    refusals::run(&mut judge);
-    judge.differ += differences::run(&mut judge.ours)?;
-    judge.differ += u64::from(!freeze::stands()?);
-    for ((_, name), compared) in operations::NAMES.iter().zip(judge.compared) {
-        println!("{name}: {compared}");
-    }
-    println!("refused by ours: {}", judge.refused);
-    println!("pit_channel_fresh: {}", judge.fresh);
-    let seconds = started.elapsed().as_secs_f64();
-    println!("{} operations compared, {} differ (seed {seed}, {seconds:.1} s)", judge.total(), judge.differ);
-    Ok(judge.differ == 0)
+fn number(word: &str) -> Result<u64, String> {
+    word.parse().map_err(|_| format!("not a number: {word}\n{USAGE}"))
 }

@@ -1,5 +1,5 @@
-//! Stands for MartyPC's `cpu_common`: the logic analyzer that the timer's tick fills. It is compiled and never run. Left out: all but the
-//! members that the text names.
+//! Stands for MartyPC's `cpu_common`: the logic analyzer that the timer's tick fills. Only one row of docs/DIFFERENCES.md runs it. Left
+//! out: all but the members that the text names.
 
 use std::collections::VecDeque;
 

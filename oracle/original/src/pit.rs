@@ -4,6 +4,7 @@
 include!(env!("PIT_RS_TEXT"));
 
 pub mod added;
+pub mod baseline;
 pub mod board;
 pub mod board_operation;
 pub mod board_time;

@@ -58,6 +58,8 @@ pub struct BoardOracle {
     remembered: Remembered,
     /// Time calls that document 01 judges alone, since the original would not come back, or not soon.
     pub alone: u64,
+    /// Time calls whose quotient is the original's, and whose warp and defer flag are document 01's.
+    pub not_ticked: u64,
     /// Time calls in which the original ran into a panic that docs/DIFFERENCES.md lists.
     pub listed: u64,
     /// Port writes that went through the original's `write_u8` too.
@@ -68,7 +70,18 @@ impl Default for BoardOracle {
     fn default() -> Self {
         let timer = || Pit::new(PitType::Model8253, 0.0, 12, None);
         let (timer, second, whole, bus) = (timer(), timer(), timer(), BusInterface::default());
-        Self { timer, second, whole, bus, fault: None, remembered: Remembered::default(), alone: 0, listed: 0, whole_writes: 0 }
+        Self {
+            timer,
+            second,
+            whole,
+            bus,
+            fault: None,
+            remembered: Remembered::default(),
+            alone: 0,
+            not_ticked: 0,
+            listed: 0,
+            whole_writes: 0,
+        }
     }
 }
 

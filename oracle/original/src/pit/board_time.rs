@@ -23,19 +23,19 @@ impl BoardOracle {
             return Err(3);
         };
         if quotient > MOST_DIVIDED {
+            self.alone += 1;
             self.by_01(start, op.number);
-        } else {
-            let yielded = self.divided(start, op.number)?;
-            if yielded != quotient {
-                self.blame("the original's quotient is not document 01's");
-            }
+            self.after_01(op);
+            return Ok((quotient, 0, 0));
         }
+        let yielded = self.divided(start, op.number)?;
         if quotient <= MOST_TICKED {
             self.on_the_second(start, op, quotient);
         } else {
+            self.not_ticked += 1;
             self.after_01(op);
         }
-        Ok((quotient, 0, 0))
+        Ok((yielded, 0, 0))
     }
 
     /// The original's own quotient; its panics stand for refusals 4 and 5.
@@ -85,7 +85,6 @@ impl BoardOracle {
 
     /// The remainder by document 01, where the original would take too long.
     fn by_01(&mut self, start: &Board, ticks: u32) {
-        self.alone += 1;
         // "adds ticks minus warp to the remainder, yields quotient by the divisor as timer ticks, keeps the rest"
         self.timer.sys_tick_accumulator = (sum(start, ticks) % u64::from(self.timer.clock_divisor)) as u32;
     }

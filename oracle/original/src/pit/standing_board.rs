@@ -4,6 +4,7 @@
 use super::board::{self, Board};
 use super::operation::model;
 use super::*;
+use crate::cpu_common::AnalyzerEntry;
 use crate::panics::caught;
 use crossbeam_channel::Receiver;
 
@@ -61,6 +62,14 @@ impl StandingBoard {
         caught(|| self.timer.run(&mut self.bus, DeviceRunTimeUnit::SystemTicks(ticks), None)).map(|()| String::new())
     }
 
+    /// A run with a logic analyzer of eight entries: how many of them its ticks visit.
+    pub fn run_analyzed(&mut self, ticks: u32) -> Result<String, String> {
+        let entry = |cycle| AnalyzerEntry { cycle, clk0: false, out0: false, out1: false, io: false, io_visits: 0 };
+        let mut analyzer = LogicAnalyzer { entries: (0..8).map(entry).collect() };
+        caught(|| self.timer.run(&mut self.bus, DeviceRunTimeUnit::SystemTicks(ticks), Some(&mut analyzer)))?;
+        Ok(analyzer.entries.iter().filter(|entry| entry.io_visits > 0).count().to_string())
+    }
+
     pub fn run_microseconds(&mut self, microseconds: f64) -> Result<String, String> {
         caught(|| self.timer.run(&mut self.bus, DeviceRunTimeUnit::Microseconds(microseconds), None)).map(|()| String::new())
     }
@@ -81,6 +90,13 @@ impl StandingBoard {
 
     pub fn clock_source(&mut self, channel: usize, source: usize) -> Result<String, String> {
         caught(|| self.timer.set_clock_source(channel, Some(source))).map(|()| String::new())
+    }
+
+    /// The bus calls made since the last call.
+    pub fn calls(&mut self) -> String {
+        let calls = self.bus.calls().map(|call| format!("{call:?}")).collect::<Vec<_>>().join(" ");
+        self.bus.forget_calls();
+        calls
     }
 
     pub fn cycles(&self) -> String {

@@ -1,0 +1,46 @@
+// The answer of a call on a board or a trace: three numbers in 16 bytes.
+ghost use mathlib.Core.Path.{_≡_};
+ghost use Rattle.pit.specs.Answer.{eightBytes, answerBytes};
+
+fn eight_bytes(n: u64) -> [u8; 8]
+    ensures { λ r. ⌜ r ≡ eightBytes n ⌝ }
+{
+    let low = encoding::four_bytes((n % 4294967296) as u32);
+    let high = encoding::four_bytes((n / 4294967296) as u32);
+    [
+        low[0],
+        low[1],
+        low[2],
+        low[3],
+        high[0],
+        high[1],
+        high[2],
+        high[3],
+    ]
+}
+
+pub(crate) fn answer_bytes(first: u64, second: u32, third: u32) -> [u8; 16]
+    ensures { λ r. ⌜ r ≡ answerBytes first second third ⌝ }
+{
+    let a = eight_bytes(first);
+    let b = encoding::four_bytes(second);
+    let c = encoding::four_bytes(third);
+    [
+        a[0],
+        a[1],
+        a[2],
+        a[3],
+        a[4],
+        a[5],
+        a[6],
+        a[7],
+        b[0],
+        b[1],
+        b[2],
+        b[3],
+        c[0],
+        c[1],
+        c[2],
+        c[3],
+    ]
+}

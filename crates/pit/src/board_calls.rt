@@ -1,0 +1,100 @@
+// A board in bytes, made, and one operation at a time on it.
+use crate::SHORT_ANSWER;
+use crate::SHORT_RECORD;
+use crate::UNKNOWN_OPERATION;
+use crate::UNREADABLE_RECORD;
+use crate::answering;
+use board::Answer;
+use board::Board;
+use board_encoding::loading::Found;
+use board_operation::asked::Asked;
+use board_operation::making::Made;
+use channel::PitType;
+ghost use mathlib.Core.Path.{_≡_};
+ghost use lib.ListN.{length};
+ghost use Rattle.encoding.specs.Front.{putFront};
+ghost use Rattle.board_encoding.specs.Stored.{boardBytes};
+ghost use Rattle.pit.specs.Board.{numbersAnswer, newStatus, newAfter, called, calledOn, boardOperation};
+
+fn write_back(bytes: &mut [u8], answer: &mut [u8], made: Made)
+    ensures { λ _. ⌜ (now (bytes .exit) ≡ putFront (boardBytes (made .board)) (now (bytes .entry))) × (now (answer .exit) ≡ putFront (numbersAnswer (made .numbers)) (now (answer .entry))) ⌝ }
+{
+    let board = made.board;
+    let numbers = made.numbers;
+    let next = board_encoding::board_bytes(board);
+    encoding::put_front(bytes, &next);
+    let answered = answering::answer_bytes(numbers.first, numbers.second, numbers.third);
+    encoding::put_front(answer, &answered);
+}
+
+// A board that was loaded.
+fn operation_on(
+    board: Board,
+    bytes: &mut [u8],
+    events: &mut [u8],
+    answer: &mut [u8],
+    place: usize,
+    asked: Asked,
+) -> u32
+    ensures { λ r. ⌜ called r (now (bytes .exit)) (now (events .exit)) (now (answer .exit)) ≡ calledOn board asked place (now (bytes .entry)) (now (events .entry)) (now (answer .entry)) ⌝ }
+{
+    let Asked::Known(operation) = asked else {
+        return UNKNOWN_OPERATION;
+    };
+    if answer.len() < 16 {
+        return SHORT_ANSWER;
+    }
+    let made = board_operation::operate(board, operation, events, place);
+    let numbers = made.numbers;
+    if numbers.refusal == 0 {
+        write_back(bytes, answer, made);
+        return 0;
+    }
+    numbers.refusal as u32
+}
+
+#[no_mangle]
+pub extern "C" fn pit_board_operation(
+    bytes: &mut [u8],
+    events: &mut [u8],
+    answer: &mut [u8],
+    place: usize,
+    code: u8,
+    target: u16,
+    number: u32,
+) -> u32
+    ensures { λ r. ⌜ called r (now (bytes .exit)) (now (events .exit)) (now (answer .exit)) ≡ boardOperation code target number place (now (bytes .entry)) (now (events .entry)) (now (answer .entry)) ⌝ }
+{
+    let loaded = board_encoding::load_board(bytes);
+    let found = loaded.found;
+    let board = loaded.board;
+    match found {
+        Found::Short => SHORT_RECORD,
+        Found::Unreadable => UNREADABLE_RECORD,
+        Found::Whole => {
+            let asked = board_operation::operation_of(code, target, number);
+            operation_on(board, bytes, events, answer, place, asked)
+        }
+    }
+}
+
+#[no_mangle]
+pub extern "C" fn pit_board_new(bytes: &mut [u8], model: u8, divisor: u32) -> u32
+    ensures { λ r. ⌜ (r ≡ newStatus model divisor (now (bytes .entry))) × (now (bytes .exit) ≡ newAfter model divisor (now (bytes .entry))) ⌝ }
+{
+    if bytes.len() < 101 {
+        return SHORT_RECORD;
+    }
+    if 1 < model {
+        return UNKNOWN_OPERATION;
+    }
+    let made = Board::new(PitType::numbered(model as u32), divisor);
+    let answer = made.answer;
+    let board = made.board;
+    let Answer::Refused(refusal) = answer else {
+        let fresh = board_encoding::board_bytes(board);
+        encoding::put_front(bytes, &fresh);
+        return 0;
+    };
+    refusal.number() as u32
+}

@@ -1,0 +1,46 @@
+// Whole traces: what a replay prints, and the answers in bytes.
+use crate::SHORT_ANSWER;
+use crate::SHORT_OUT;
+use crate::answering;
+use runner::Replayed;
+ghost use mathlib.Core.Path.{_≡_};
+ghost use lib.ListN.{length};
+ghost use Rattle.runner.specs.Lent.{replyIn, replayInto, answersInto};
+ghost use Rattle.pit.specs.Trace.{replyStatus, replyAfter, replayCalled, replayCall};
+
+// The status of a replay, and its length in the answer.
+fn settle(replayed: Replayed, answer: &mut [u8]) -> u32
+    ensures { λ r. ⌜ (r ≡ replyStatus (replyIn replayed)) × (now (answer .exit) ≡ replyAfter (replyIn replayed) (now (answer .entry))) ⌝ }
+{
+    match replayed {
+        Replayed::Written(n) => {
+            let answered = answering::answer_bytes(n as u64, 0, 0);
+            encoding::put_front(answer, &answered);
+            0
+        }
+        Replayed::Refused(refusal) => refusal.number() as u32,
+        Replayed::Short => SHORT_OUT,
+    }
+}
+
+#[no_mangle]
+pub extern "C" fn pit_replay(trace: &[u8], out: &mut [u8], answer: &mut [u8]) -> u32
+    ensures { λ r. ⌜ replayCalled r (now (out .exit)) (now (answer .exit)) ≡ replayCall (replayInto (now (trace .entry)) (now (out .entry))) (now (out .entry)) (now (answer .entry)) ⌝ }
+{
+    if answer.len() < 16 {
+        return SHORT_ANSWER;
+    }
+    let replayed = runner::replay_into(trace, out);
+    settle(replayed, answer)
+}
+
+#[no_mangle]
+pub extern "C" fn pit_answers(trace: &[u8], out: &mut [u8], answer: &mut [u8]) -> u32
+    ensures { λ r. ⌜ replayCalled r (now (out .exit)) (now (answer .exit)) ≡ replayCall (answersInto (now (trace .entry)) (now (out .entry))) (now (out .entry)) (now (answer .entry)) ⌝ }
+{
+    if answer.len() < 16 {
+        return SHORT_ANSWER;
+    }
+    let replayed = runner::answers_into(trace, out);
+    settle(replayed, answer)
+}

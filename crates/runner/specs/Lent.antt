@@ -1,0 +1,57 @@
+-- docs/ENCODING.md, `pit_replay` and `pit_answers`: a trace replayed into lent bytes of any length.
+use Prim.Native.Nat.{ℕ, _+_, _*_}
+use mathlib.Core.Bool.{cond}
+use mathlib.Core.List.{List, _++_}
+use lib.Dec.{ltb}
+use lib.ListN.{length, drop}
+use Rattle.refusal.specs.Reply.{Reply, refused, accepted}
+use Rattle.refusal.specs.Refusal.{refusalNumber}
+use Rattle.trace.specs.Judgement.{Judgement, refusedAt, sound}
+use Rattle.trace.specs.Trace.{Trace, readTrace}
+use Rattle.board.specs.Making.{fresh}
+use Rattle.line.specs.Line.{lineRoom}
+use Rattle.runner.specs.declared.Form.the-variants.{Answers}
+use Rattle.runner.specs.declared.Replayed.{Replayed}
+use Rattle.runner.specs.declared.Replayed.the-variants.{Written, Refused, Short}
+use Rattle.runner.specs.Printed.{roomOf, toldFrom, printed}
+
+-- how many bytes were written or the number of a refusal, and the lent bytes
+pub record Replaying : Type 0 where
+  pub reply : Reply ℕ
+  pub bytes : List ℕ
+
+-- "105 fewer bytes of `out` than the trace can take"; otherwise the text stands at the front, and the bytes behind it are as they were
+abbrev pub inRoom : ℕ → List ℕ → List ℕ → Replaying
+inRoom room text bytes =
+    cond (ltb (length bytes) room) (record { reply = refused 105; bytes = bytes })
+    (record { reply = accepted (length text); bytes = text ++ drop (length text) bytes })
+
+-- "48 for the head, for each operation and for the end, or 48 in all for a trace that is refused"
+abbrev pub roomFor : Judgement Trace → ℕ
+roomFor (refusedAt number place) = lineRoom
+roomFor (sound t) = lineRoom * (length (t .operations) + 2)
+
+-- "writes what the replay program would print to the front of `out`"
+unfoldable pub replayInto : List ℕ → List ℕ → Replaying
+replayInto trace bytes = inRoom (roomFor (readTrace trace)) (printed trace) bytes
+
+-- what is said of each operation, from the fresh board on
+abbrev pub answersOf : Trace → List ℕ
+answersOf t = toldFrom Answers (fresh (t .model) (t .divisor)) 0 (t .operations)
+
+-- "3 and 9 to 14 of the trace, 105"; "12 for each operation"
+abbrev pub answersJudged : Judgement Trace → List ℕ → Replaying
+answersJudged (refusedAt number place) bytes = record { reply = refused number; bytes = bytes }
+answersJudged (sound t) bytes = inRoom (roomOf Answers * length (t .operations)) (answersOf t) bytes
+
+unfoldable pub answersInto : List ℕ → List ℕ → Replaying
+answersInto trace bytes = answersJudged (readTrace trace) bytes
+
+-- what the code answers, with the lent bytes at its end
+abbrev pub replyIn : Replayed → Reply ℕ
+replyIn (Written n) = accepted n
+replyIn (Refused refusal) = refused (refusalNumber refusal)
+replyIn Short = refused 105
+
+abbrev pub replayed : Replayed → List ℕ → Replaying
+replayed r bytes = record { reply = replyIn r; bytes = bytes }

@@ -1,0 +1,112 @@
+//! The traces that are measured. All begin with settings and end in the operations; the seed is fixed.
+
+/// A trace of some operations: divisor 12, the 8254.
+pub struct Workload {
+    pub name: &'static str,
+    pub trace: Vec<u8>,
+    pub operations: usize,
+}
+
+type Six = [u8; 6];
+
+fn six(code: u8, target: u8, number: u32) -> Six {
+    let n = number.to_le_bytes();
+    [code, target, n[0], n[1], n[2], n[3]]
+}
+
+fn workload(name: &'static str, operations: Vec<Six>) -> Workload {
+    let mut trace = Vec::new();
+    for number in [2, 12, 1, operations.len() as u32] {
+        trace.extend_from_slice(&number.to_le_bytes());
+    }
+    operations.iter().for_each(|op| trace.extend_from_slice(op));
+    Workload { name, trace, operations: operations.len() }
+}
+
+/// As many operations as asked for, each from its index.
+fn each(number: usize, of: impl Fn(usize) -> Six) -> Vec<Six> {
+    (0..number).map(of).collect()
+}
+
+/// SplitMix64, so that no branch of either side can be learned from a short pattern.
+fn mixed_up(index: usize) -> u32 {
+    let mut z = (index as u64 + 1).wrapping_mul(0x9E37_79B9_7F4A_7C15);
+    z = (z ^ (z >> 30)).wrapping_mul(0xBF58_476D_1CE4_E5B9);
+    z = (z ^ (z >> 27)).wrapping_mul(0x94D0_49BB_1331_11EB);
+    (z >> 32) as u32
+}
+
+/// Two bytes written to a channel's data port, again and again.
+fn data_writes(number: usize) -> Vec<Six> {
+    each(number, |i| six(1, 0x40 + (i / 2 % 3) as u8, mixed_up(i) & 0xFF))
+}
+
+/// Mode sets: modes 0 and 2 in turn, so that each changes the output.
+fn mode_sets(number: usize) -> Vec<Six> {
+    each(number, |i| six(1, 0x43, [0x30, 0x34, 0x70, 0x74, 0xB0, 0xB4][i % 6]))
+}
+
+/// Latch, low byte, high byte, on each channel in turn.
+fn latched_reads(number: usize) -> Vec<Six> {
+    each(number, |i| {
+        let c = (i / 3 % 3) as u8;
+        if i % 3 == 0 { six(1, 0x43, u32::from(c) << 6) } else { six(2, 0x40 + c, 0) }
+    })
+}
+
+/// A channel in mode 2 whose gate falls and rises.
+fn gates(number: usize) -> Vec<Six> {
+    let begun = [six(1, 0x43, 0x14), six(1, 0x40, 5), six(5, 0, 0)];
+    let edges = each(number - begun.len(), |i| six(3, 0, (i % 2) as u32));
+    [&begun[..], &edges].concat()
+}
+
+fn counts(number: usize, each_of: u32, control: u32) -> Vec<Six> {
+    let begun = [six(1, 0x43, control), six(1, 0x40, 0), six(1, 0x40, 0), six(5, 0, 0)];
+    [&begun[..], &each(number - begun.len(), |_| six(4, 0, each_of))].concat()
+}
+
+/// A catch-up in the middle of an instruction and the run at its end, of some ticks each.
+fn times(number: usize, ticks: u32) -> Vec<Six> {
+    each(number, |i| if i % 2 == 0 { six(6, 0, ticks / 2) } else { six(7, 0, ticks) })
+}
+
+/// What a robot's program does with the chip, in random order: all eight codes, most of them on good ports and channels.
+fn mixed(number: usize) -> Vec<Six> {
+    each(number, |i| {
+        let r = mixed_up(i);
+        let c = (r >> 8) as u8 % 3;
+        match r % 32 {
+            0 | 1 => six(1, 0x43, u32::from(c) << 6 | [0x30, 0x34, 0x36, 0x12, 0x38, 0x3A, 0x31, 0x35][(r >> 16) as usize % 8]),
+            2..=7 => six(1, 0x40 + c, r >> 24),
+            8..=10 => six(1, 0x43, u32::from(c) << 6),
+            11..=16 => six(2, 0x40 + c, 0),
+            17..=19 => six(3, c, r >> 31),
+            20..=23 => six(4, c, r >> 30),
+            24..=26 => six(5, c, 0),
+            27 | 28 => six(6, 0, 40 + (r >> 28)),
+            29 | 30 => six(7, 0, 60 + (r >> 28)),
+            _ if r >> 24 == 0 => six(8, 0, 0),
+            _ => six(2, 0x44, 0),
+        }
+    })
+}
+
+pub fn all() -> Vec<Workload> {
+    vec![
+        workload("mixed, 4,096 operations", mixed(4096)),
+        workload("data writes", data_writes(4096)),
+        workload("mode sets, an event each", mode_sets(4096)),
+        workload("latched reads", latched_reads(4096)),
+        workload("gates", gates(4096)),
+        workload("single counts, binary", counts(4096, 1, 0x30)),
+        workload("single counts, BCD", counts(4096, 1, 0x31)),
+        workload("65,536 counts a call, binary", counts(128, 65_536, 0x30)),
+        workload("65,536 counts a call, BCD", counts(36, 65_536, 0x31)),
+        workload("catch-ups and runs, 24 ticks", times(4096, 24)),
+        workload("catch-ups and runs, 12,000 ticks", times(4096, 12_000)),
+        workload("mixed, 64 operations", mixed(64)),
+        workload("mixed, 256 operations", mixed(256)),
+        workload("mixed, 1,024 operations", mixed(1024)),
+    ]
+}

@@ -1,0 +1,210 @@
+//! A sample of the original's answers on boards, for tests that have no Rust at hand; freeze.rs has that of channels. Ours is not asked when it is made.
+//!
+//! A case is 251 bytes: the board before (101), how many event bytes are lent (1), eight bytes of which they are the first and the rest 0, the event place (8),
+//! the operation's code (1), target (2) and number (4), the status (1), the board after (101), the eight bytes after (8), and the answer (16), which
+//! holds 0xA5 where the status is not 0: what the caller put there.
+
+use crate::board_fields::BoardField;
+use crate::board_frame::BoardFrame;
+use crate::board_operations::{operation, NAMES};
+use crate::ours::Ours;
+use crate::random::Random;
+use original::pit::board::{fresh, put_number, Board, DIVISOR, REMAINDER, WARP};
+use original::pit::board_operation::{BoardOperation, BoardOracle, Events};
+
+pub const CASE: usize = 251;
+const CASES: usize = 1200;
+const SEED: u64 = 8255;
+
+/// Stands in the answer before a call.
+const OLD_ANSWER: u8 = 0xA5;
+
+/// The most counts that a random case makes; more take time in every gate run. More than may be asked for are refused at once.
+const MOST_COUNTS: u32 = 300;
+const MAY_BE_ASKED: u32 = 65_536;
+
+struct Sample {
+    random: Random,
+    oracle: BoardOracle,
+    bytes: Vec<u8>,
+}
+
+impl Sample {
+    /// Appends a case and hands back the board after it.
+    fn add(&mut self, board: &Board, events: Events, op: BoardOperation) -> Result<Board, String> {
+        let mut events = events;
+        events.bytes[usize::from(events.len)..].fill(0);
+        let outcome = self.oracle.operation(board, &events, op);
+        if let Some(fault) = outcome.fault {
+            return Err(fault.to_string());
+        }
+        self.bytes.extend_from_slice(board);
+        self.bytes.push(events.len);
+        self.bytes.extend_from_slice(&events.bytes);
+        self.bytes.extend_from_slice(&op.place.to_le_bytes());
+        self.bytes.push(op.code);
+        self.bytes.extend_from_slice(&op.target.to_le_bytes());
+        self.bytes.extend_from_slice(&op.number.to_le_bytes());
+        self.bytes.push(outcome.status as u8);
+        self.bytes.extend_from_slice(&outcome.board);
+        self.bytes.extend_from_slice(&outcome.events.bytes);
+        if outcome.status == 0 {
+            self.bytes.extend_from_slice(&outcome.numbers.0.to_le_bytes());
+            self.bytes.extend_from_slice(&outcome.numbers.1.to_le_bytes());
+            self.bytes.extend_from_slice(&outcome.numbers.2.to_le_bytes());
+        } else {
+            self.bytes.extend_from_slice(&[OLD_ANSWER; 16]);
+        }
+        Ok(outcome.board)
+    }
+
+    fn any_events(&mut self, len: u8) -> Events {
+        Events { bytes: self.random.next().to_le_bytes(), len }
+    }
+
+    fn any_operation(&mut self, board: &Board, events: &Events) -> BoardOperation {
+        let mut op = self.random.board_operation(board, events);
+        if op.code == 4 && op.number <= MAY_BE_ASKED {
+            op.number = op.number.min(MOST_COUNTS);
+        }
+        op
+    }
+
+    /// Chains from fresh boards of both models.
+    fn chains(&mut self) -> Result<(), String> {
+        for (model, divisor) in [(0, 12), (1, 12), (0, 1), (1, 3), (0, 4_294_967_295), (1, 100)] {
+            let mut board = fresh(model, divisor);
+            for _ in 0..40 {
+                let events = self.random.events();
+                let op = self.any_operation(&board, &events);
+                board = self.add(&board, events, op)?;
+            }
+        }
+        Ok(())
+    }
+
+    /// Every room and place about an event that is due, and about none.
+    fn rooms_and_places(&mut self) -> Result<(), String> {
+        let places = |room: u8| (0..=u64::from(room) + 1).chain([1 << 32, u64::MAX]);
+        for (room, place) in (0..=4).flat_map(|room| places(room).map(move |place| (room, place))) {
+            for (code, target, number) in [(1, 0x43, 0x94), (1, 0x42, 7), (3, 2, 0)] {
+                let mut board = self.random.board();
+                // A gate that falls in mode 2 while it counts, and a mode set: both raise a low output.
+                for (name, value) in [("mode:2", 2), ("channel_state:2", 5), ("gate:2", 1), ("output:2", 0)] {
+                    BoardField::named(name).expect("a field").put(&mut board, value);
+                }
+                let events = self.any_events(room);
+                self.add(&board, events, BoardOperation { place, ..operation(code, target, number) })?;
+            }
+        }
+        Ok(())
+    }
+
+    /// Every code with good and bad targets, each on a board of its own.
+    fn targets(&mut self) -> Result<(), String> {
+        for (code, _) in NAMES {
+            let targets: &[u16] = match code {
+                1 | 2 => &[0x40, 0x41, 0x42, 0x43, 0x3F, 0x44, 0x140, 0xFFFF],
+                6 | 7 | 8 | 21 => &[0; 6],
+                _ => &[0, 1, 2, 3, 0x100, 0xFFFF],
+            };
+            for (target, turn) in targets.iter().flat_map(|target| (0..3).map(move |turn| (*target, turn))) {
+                let board = self.random.board();
+                let number = if matches!(code, 1 | 3 | 4) { turn & 1 } else { 0 };
+                let events = self.any_events(4);
+                self.add(&board, events, operation(code, target, number))?;
+            }
+        }
+        Ok(())
+    }
+
+    /// The numbers at which a call of counts or of time is refused, and those beside them.
+    fn limits(&mut self) -> Result<(), String> {
+        for (channel, number) in [(0, 65_535), (1, 65_536), (2, 65_537), (0, 65_537), (1, u32::MAX), (1, 0), (3, 65_537)] {
+            let board = self.random.board();
+            self.add(&board, Events { bytes: [0; 8], len: 0 }, operation(4, channel, number))?;
+        }
+        let all = u32::MAX;
+        let times = [
+            [12, 0, 0, 11],
+            [12, 0, 0, 12],
+            [12, 11, 0, 25],
+            [0, 0, 0, 0],
+            [0, 5, 9, 3],
+            [12, 0, 7, 7],
+            [12, 0, 7, 6],
+            [12, 3, all, all],
+            [12, 3, all, all - 1],
+            [all, all - 1, 0, 1],
+            [all, all - 1, 0, 2],
+            [all, 1, 1, all],
+            [all, 2, 1, all],
+            [65_536, all, 0, 0],
+            [65_536, all, 0, 1],
+            [1, 40, 2, 3],
+            [2, 0, 0, 9],
+            [3, 2, 0, 1],
+        ];
+        for (code, [divisor, remainder, warp, ticks]) in [6, 7].iter().flat_map(|code| times.map(|numbers| (*code, numbers))) {
+            let mut board = self.random.board();
+            for (place, number) in [(DIVISOR, divisor), (REMAINDER, remainder), (WARP, warp)] {
+                put_number(&mut board, place, number);
+            }
+            self.add(&board, Events { bytes: [0; 8], len: 1 }, operation(code, 0, ticks))?;
+        }
+        Ok(())
+    }
+
+    /// Random cases for the rest.
+    fn rest(&mut self) -> Result<(), String> {
+        while self.bytes.len() < CASE * CASES {
+            let (board, events) = (self.random.board(), self.random.events());
+            let op = self.any_operation(&board, &events);
+            self.add(&board, events, op)?;
+        }
+        Ok(())
+    }
+}
+
+/// The sample's bytes, with the original's answers.
+pub fn answered() -> Result<Vec<u8>, String> {
+    let mut sample = Sample { random: Random(SEED), oracle: BoardOracle::default(), bytes: Vec::new() };
+    sample.chains()?;
+    sample.rooms_and_places()?;
+    sample.targets()?;
+    sample.limits()?;
+    sample.rest()?;
+    Ok(sample.bytes)
+}
+
+/// How many cases of a sample ours answers otherwise than it says.
+pub fn replay(path: &str) -> Result<u64, String> {
+    let bytes = std::fs::read(path).map_err(|error| format!("{path}: {error}"))?;
+    if bytes.is_empty() || bytes.len() % CASE != 0 {
+        return Err(format!("{path}: not a number of whole cases"));
+    }
+    let mut ours = Ours::start()?;
+    let differ = bytes.chunks(CASE).filter(|case| !agrees(&mut ours, case)).count() as u64;
+    println!("{} cases on boards replayed, {differ} differ", bytes.len() / CASE);
+    Ok(differ)
+}
+
+fn agrees(ours: &mut Ours, case: &[u8]) -> bool {
+    let board: Board = case[..101].try_into().expect("101 bytes");
+    let events = Events { bytes: case[102..110].try_into().expect("8 bytes"), len: case[101] };
+    let op = BoardOperation {
+        code: case[118],
+        target: u16::from_le_bytes([case[119], case[120]]),
+        number: u32::from_le_bytes(case[121..125].try_into().expect("4 bytes")),
+        place: u64::from_le_bytes(case[110..118].try_into().expect("8 bytes")),
+    };
+    let frame = BoardFrame::operation(&board, &events, op).lending(101, 16);
+    let reply = ours.call(frame);
+    if reply.status() != u32::from(case[125]) || reply.status() != 0 {
+        return reply.status() == u32::from(case[125]) && reply.lent() == frame.lent();
+    }
+    let (first, second, third) = reply.numbers();
+    let answer = [&first.to_le_bytes()[..], &second.to_le_bytes()[..], &third.to_le_bytes()[..]].concat();
+    let lent = usize::from(events.len);
+    reply.board() == case[126..227] && *reply.events() == case[227..227 + lent] && answer == case[235..] && reply.rest_untouched()
+}

@@ -1,0 +1,88 @@
+//! A sample of traces with what a replay prints, for tests that have no Rust at hand. The operations are run on the original; a trace is judged by
+//! trace_reader.rs. Each is: the trace's length (4 bytes), the trace, the text's length (4 bytes), the text.
+
+use crate::ours::Ours;
+use crate::random::Random;
+use crate::trace_frame::TraceFrame;
+use crate::trace_judge::case_r;
+use crate::trace_reader::MOST_OPERATIONS;
+use crate::trace_replay::replay as replay_on_the_original;
+use original::pit::board_operation::BoardOracle;
+
+const SEED: u64 = 8256;
+const SOUND: usize = 60;
+/// Of each refusal of a trace.
+const REFUSED: usize = 8;
+const REFUSALS: [u32; 7] = [3, 9, 10, 11, 12, 13, 14];
+/// No trace is longer but the last, which has as many operations as there may be.
+const MOST_BYTES: usize = 2_000;
+
+/// Case R, sound traces, as many damaged ones of each refusal, and the longest.
+fn traces() -> Vec<Vec<u8>> {
+    let (mut random, mut oracle) = (Random(SEED), BoardOracle::default());
+    let mut traces = vec![case_r(), case_r()[..16].to_vec()];
+    for turn in 0..SOUND {
+        let number = if turn == 0 { 330 } else { random.below(40) };
+        traces.push(random.sound_trace(&mut oracle, number));
+    }
+    let mut left = REFUSALS.map(|_| REFUSED);
+    while left.iter().any(|number| *number > 0) {
+        let number = random.below(12);
+        let mut trace = random.sound_trace(&mut oracle, number);
+        random.damage(&mut trace);
+        let Err((number, _)) = replay_on_the_original(&mut oracle, &trace).answers else { continue };
+        let place = REFUSALS.iter().position(|known| *known == number).expect("a refusal of a trace");
+        if left[place] > 0 {
+            left[place] -= 1;
+            traces.push(trace);
+        }
+    }
+    assert!(traces.iter().all(|trace| trace.len() <= MOST_BYTES), "a trace that a gate program has no room for");
+    traces.push(random.sound_trace(&mut oracle, MOST_OPERATIONS.into()));
+    traces
+}
+
+/// The sample's bytes.
+pub fn answered() -> Result<Vec<u8>, String> {
+    let mut oracle = BoardOracle::default();
+    let mut bytes = Vec::new();
+    for trace in traces() {
+        let replayed = replay_on_the_original(&mut oracle, &trace);
+        if let Some(fault) = replayed.fault {
+            return Err(fault.to_string());
+        }
+        for part in [&trace[..], replayed.text.as_bytes()] {
+            bytes.extend_from_slice(&(part.len() as u32).to_le_bytes());
+            bytes.extend_from_slice(part);
+        }
+    }
+    Ok(bytes)
+}
+
+/// The parts of a sample: traces and texts by turns.
+pub fn parts(bytes: &[u8]) -> Option<Vec<&[u8]>> {
+    let (mut parts, mut rest) = (Vec::new(), bytes);
+    while !rest.is_empty() {
+        let (length, behind) = rest.split_first_chunk::<4>()?;
+        let (part, behind) = behind.split_at_checked(u32::from_le_bytes(*length) as usize)?;
+        parts.push(part);
+        rest = behind;
+    }
+    (parts.len() % 2 == 0).then_some(parts)
+}
+
+/// How many traces of a sample ours replays otherwise than it says.
+pub fn replay(path: &str) -> Result<u64, String> {
+    let bytes = std::fs::read(path).map_err(|error| format!("{path}: {error}"))?;
+    let parts = parts(&bytes).filter(|parts| !parts.is_empty()).ok_or(format!("{path}: not a number of whole traces and texts"))?;
+    let mut ours = Ours::start()?;
+    let mut differ = 0;
+    for pair in parts.chunks(2) {
+        let (trace, text) = (pair[0], pair[1]);
+        let reply = ours.call(TraceFrame::replay(trace, 48 * (trace.len() / 6 + 2), 16, 0xA5));
+        let same = reply.status() == 0 && reply.numbers() == (text.len() as u64, 0, 0) && reply.out(text.len()) == text;
+        differ += u64::from(!same || !reply.rest_untouched(trace, text.len()));
+    }
+    println!("{} traces replayed, {differ} differ", parts.len() / 2);
+    Ok(differ)
+}

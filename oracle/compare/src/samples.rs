@@ -1,0 +1,38 @@
+//! The three frozen samples: of channels, of boards and of traces. Each is made from a fixed seed, so the same text of the original gives the same bytes.
+
+use crate::{freeze, freeze_boards, freeze_traces};
+use std::fs;
+use std::path::Path;
+
+const CRATES: &str = concat!(env!("CARGO_MANIFEST_DIR"), "/../../crates");
+
+/// The crate that holds a sample, and what makes its bytes.
+type Sample = (&'static str, fn() -> Result<Vec<u8>, String>);
+
+const SAMPLES: [Sample; 3] =
+    [("frozen", freeze::answered), ("frozen_boards", freeze_boards::answered), ("frozen_traces", freeze_traces::answered)];
+
+/// Writes one sample to a file.
+pub fn write(name: &str, path: &str) -> Result<(), String> {
+    let (_, make) = SAMPLES.iter().find(|(known, _)| *known == name).expect("the name of a sample");
+    let bytes = make()?;
+    fs::write(path, &bytes).map_err(|error| format!("{path}: {error}"))?;
+    println!("{} bytes", bytes.len());
+    Ok(())
+}
+
+/// How many of the repository's samples are not what the original answers today. One that is not there is not counted, but said.
+pub fn stand() -> Result<u64, String> {
+    let mut differ = 0;
+    for (name, make) in SAMPLES {
+        let path = Path::new(CRATES).join(name).join("stdin");
+        if !path.exists() {
+            println!("crates/{name}/stdin is not there: nothing to hold against the original's answers");
+            continue;
+        }
+        let same = fs::read(&path).map_err(|error| format!("crates/{name}/stdin: {error}"))? == make()?;
+        println!("the sample crates/{name} {} the original's answers", if same { "has" } else { "HAS NOT" });
+        differ += u64::from(!same);
+    }
+    Ok(differ)
+}

@@ -1,0 +1,191 @@
+//! What `pit_answers` and `pit_replay` do, made by the original: the same trace in, the same bytes out. ./bench measures this beside ours.
+//!
+//! It stands in the original's own module, so that the compiler can inline the original's functions into the loop. The trace is judged first, as ours is, then run.
+
+use super::*;
+
+/// Bytes of an answer: docs/ENCODING.md, "The answers of a trace".
+const ANSWER: usize = 12;
+
+#[derive(Clone, Copy)]
+struct Op {
+    code: u8,
+    target: u8,
+    number: u32,
+}
+
+enum Reply {
+    Refused(u8),
+    Done,
+    Out(u8, bool),
+    Byte(u8),
+    Ticks(u32),
+}
+
+fn long(bytes: &[u8], place: usize) -> u32 {
+    u32::from_le_bytes([bytes[place], bytes[place + 1], bytes[place + 2], bytes[place + 3]])
+}
+
+fn op_at(trace: &[u8], index: usize) -> Op {
+    let place = 16 + 6 * index;
+    let six = &trace[place..place + 6];
+    Op { code: six[0], target: six[1], number: long(six, 2) }
+}
+
+fn sound(op: Op) -> bool {
+    match op.code {
+        1 => op.number <= 255,
+        2 | 5 => op.number == 0,
+        3 => op.number <= 1,
+        4 => true,
+        6 | 7 => op.target == 0,
+        8 => op.target == 0 && op.number == 0,
+        _ => false,
+    }
+}
+
+/// How many operations a sound trace has. What is wrong with another is not asked here.
+fn judged(trace: &[u8]) -> Option<usize> {
+    if trace.len() < 16 || long(trace, 0) != 2 || long(trace, 4) == 0 || long(trace, 8) > 1 || long(trace, 12) > 4096 {
+        return None;
+    }
+    let number = long(trace, 12) as usize;
+    let whole = trace.len() == 16 + 6 * number;
+    (whole && (0..number).all(|index| sound(op_at(trace, index)))).then_some(number)
+}
+
+pub struct Baseline {
+    timer: Pit,
+    bus: BusInterface,
+}
+
+impl Baseline {
+    fn fresh(trace: &[u8]) -> Self {
+        let ptype = if long(trace, 8) == 1 { PitType::Model8254 } else { PitType::Model8253 };
+        let mut timer = Pit::new(ptype, 0.0, long(trace, 4), None);
+        for (c, channel) in timer.channels.iter_mut().enumerate() {
+            *channel = added::fresh(c, ptype);
+        }
+        Self { timer, bus: BusInterface::default() }
+    }
+
+    fn write(&mut self, port: u8, byte: u8) -> Reply {
+        let c = match port {
+            0x40..=0x42 => usize::from(port - 0x40),
+            // A control byte for no channel: any channel shows that nothing changes.
+            0x43 => usize::from(byte >> 6).min(2),
+            _ => return Reply::Refused(1),
+        };
+        let before = *self.timer.channels[c].output;
+        if port == 0x43 {
+            self.timer.control_register_write(byte, &mut self.bus);
+        } else {
+            self.timer.data_write(c, byte, &mut self.bus);
+        }
+        self.changed(c, before)
+    }
+
+    fn changed(&self, c: usize, before: bool) -> Reply {
+        let after = *self.timer.channels[c].output;
+        if before == after {
+            Reply::Done
+        } else {
+            Reply::Out(c as u8, after)
+        }
+    }
+
+    fn gate(&mut self, c: usize, level: bool) -> Reply {
+        if c > 2 {
+            return Reply::Refused(2);
+        }
+        let before = *self.timer.channels[c].output;
+        self.timer.set_channel_gate(c, level, &mut self.bus);
+        self.changed(c, before)
+    }
+
+    fn counts(&mut self, c: usize, number: u32) -> Reply {
+        if c > 2 {
+            return Reply::Refused(2);
+        }
+        if number > 65_536 {
+            return Reply::Refused(6);
+        }
+        let channel = &mut self.timer.channels[c];
+        for _ in 0..number {
+            channel.count();
+        }
+        Reply::Done
+    }
+
+    fn elapse(&mut self, ticks: u32, catch_up: bool) -> Reply {
+        let DeviceRunTimeUnit::SystemTicks(warp) = self.timer.timewarp else { return Reply::Refused(0) };
+        if ticks < warp {
+            return Reply::Refused(4);
+        }
+        if self.timer.sys_tick_accumulator.checked_add(ticks - warp).is_none() {
+            return Reply::Refused(5);
+        }
+        let given = DeviceRunTimeUnit::SystemTicks(ticks);
+        let (yielded, _) = self.timer.ticks_from_time(given, self.timer.timewarp);
+        if catch_up {
+            self.timer.timewarp = given;
+            self.timer.defer_reload_flag = true;
+        } else {
+            self.timer.timewarp = DeviceRunTimeUnit::SystemTicks(0);
+        }
+        Reply::Ticks(yielded)
+    }
+
+    fn make(&mut self, op: Op) -> Reply {
+        let c = usize::from(op.target);
+        match op.code {
+            1 => self.write(op.target, op.number as u8),
+            2 => match op.target {
+                0x40..=0x43 => Reply::Byte(self.timer.read_u8(op.target.into(), DeviceRunTimeUnit::SystemTicks(0))),
+                _ => Reply::Refused(1),
+            },
+            3 => self.gate(c, op.number == 1),
+            4 => self.counts(c, op.number),
+            5 => {
+                if c > 2 {
+                    return Reply::Refused(2);
+                }
+                added::load_cycle(&mut self.timer.channels[c]);
+                Reply::Done
+            }
+            6 => self.elapse(op.number, true),
+            7 => self.elapse(op.number, false),
+            _ => {
+                self.timer.reset();
+                self.timer.channels.iter_mut().for_each(added::after_reset);
+                Reply::Done
+            }
+        }
+    }
+}
+
+fn answer(reply: &Reply, left: u32, bytes: &mut [u8]) {
+    let (refusal, events, value) = match *reply {
+        Reply::Refused(number) => (number, [0, 0, 0], 0),
+        Reply::Done => (0, [0, 0, 0], 0),
+        Reply::Out(c, level) => (0, [2, c, level.into()], 0),
+        Reply::Byte(byte) => (0, [0, 0, 0], byte.into()),
+        Reply::Ticks(ticks) => (0, [0, 0, 0], ticks),
+    };
+    bytes[0] = refusal;
+    bytes[1..4].copy_from_slice(&events);
+    bytes[4..8].copy_from_slice(&value.to_le_bytes());
+    bytes[8..12].copy_from_slice(&left.to_le_bytes());
+}
+
+/// The answers of a sound trace at the front of `out`, and how many bytes they are.
+pub fn answers(trace: &[u8], out: &mut [u8]) -> Option<usize> {
+    let number = judged(trace)?;
+    let out = out.get_mut(..ANSWER * number)?;
+    let mut board = Baseline::fresh(trace);
+    for (index, bytes) in out.chunks_exact_mut(ANSWER).enumerate() {
+        let reply = board.make(op_at(trace, index));
+        answer(&reply, board.timer.sys_tick_accumulator, bytes);
+    }
+    Some(ANSWER * number)
+}
