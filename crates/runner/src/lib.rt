@@ -11,8 +11,8 @@ use refusal::Refusal;
 use time::SystemTicks;
 use trace::head::Head;
 use trace::head::Judged;
-use trace::operation::OperationJudged;
 use turn::finding::Turn;
+use turn::finding::Work;
 ghost use mathlib.Core.Path.{_≡_};
 ghost use Prim.Native.Nat.{_+_, _*_, _≤_};
 ghost use lib.ListN.{length, take};
@@ -86,25 +86,75 @@ fn tell(
     let mut j: u32 = 0;
     while j < number {
         let index = first + j;
-        let found = trace::operation_at(trace, index);
-        let OperationJudged::Sound(operation) = found else {
-            // Not taken: the trace was judged.
-            return at;
-        };
+        let operation = trace::operation_in(trace, index);
         j += 1;
         let turn = turn::turn_of(operation);
-        let mut events = [0u8; 2];
+        let none = [0u8; 2];
         match turn {
             Turn::OnChannel(n, work) => {
                 let i = n as usize;
-                let c = b.channels[i];
-                let model = b.model;
-                let worked = turn::work_on(c, n, work, model, b.defer, &mut events);
-                let next = worked.channel;
-                b.channels[i] = next;
-                let answer = worked.answer;
-                let left = b.remainder;
-                at = say(form, out, at, index, answer, events, left);
+                match work {
+                    Work::Write(byte) => {
+                        let c = b.channels[i];
+                        let next = load::write_byte(c, byte, b.defer);
+                        b.channels[i] = next;
+                        let raised = turn::raise(n, c, next);
+                        let answer = raised.answer;
+                        let events = raised.events;
+                        let left = b.remainder;
+                        at = say(form, out, at, index, answer, events, left);
+                    }
+                    Work::Latch => {
+                        let c = b.channels[i];
+                        let next = latch::latch_count(c);
+                        b.channels[i] = next;
+                        let left = b.remainder;
+                        at = say(form, out, at, index, Answer::Place(0), none, left);
+                    }
+                    Work::SetMode(word) => {
+                        let c = b.channels[i];
+                        let model = b.model;
+                        let next = mode::set_mode(c, word, model);
+                        b.channels[i] = next;
+                        let raised = turn::raise(n, c, next);
+                        let answer = raised.answer;
+                        let events = raised.events;
+                        let left = b.remainder;
+                        at = say(form, out, at, index, answer, events, left);
+                    }
+                    Work::SetGate(level) => {
+                        let c = b.channels[i];
+                        let next = gate::set_gate(c, level);
+                        b.channels[i] = next;
+                        let raised = turn::raise(n, c, next);
+                        let answer = raised.answer;
+                        let events = raised.events;
+                        let left = b.remainder;
+                        at = say(form, out, at, index, answer, events, left);
+                    }
+                    Work::Read => {
+                        let c = b.channels[i];
+                        let got = latch::read_byte(c);
+                        let next = got.channel;
+                        b.channels[i] = next;
+                        let left = b.remainder;
+                        at = say(form, out, at, index, Answer::Byte(got.byte), none, left);
+                    }
+                    Work::Counts(number) => {
+                        let c = b.channels[i];
+                        let next = count::counts(c, number);
+                        b.channels[i] = next;
+                        let left = b.remainder;
+                        at = say(form, out, at, index, Answer::Done, none, left);
+                    }
+                    Work::LoadCycle => {
+                        let c = b.channels[i];
+                        let next = load::load_cycle(c);
+                        b.channels[i] = next;
+                        let left = b.remainder;
+                        at = say(form, out, at, index, Answer::Done, none, left);
+                    }
+                }
             }
             Turn::Elapse(given, warp, defers) => {
                 let remainder = b.remainder;
@@ -124,7 +174,7 @@ fn tell(
                 b.warp = next;
                 b.defer = elapsed.defer;
                 let answer = elapsed.answer;
-                at = say(form, out, at, index, answer, events, left);
+                at = say(form, out, at, index, answer, none, left);
             }
             Turn::Reset => {
                 let c0 = b.channels[0];
@@ -133,11 +183,11 @@ fn tell(
                 let channels = [c0.reset(), c1.reset(), c2.reset()];
                 b.channels = channels;
                 let left = b.remainder;
-                at = say(form, out, at, index, Answer::Done, events, left);
+                at = say(form, out, at, index, Answer::Done, none, left);
             }
             Turn::Say(answer) => {
                 let left = b.remainder;
-                at = say(form, out, at, index, answer, events, left);
+                at = say(form, out, at, index, answer, none, left);
             }
         }
     }
@@ -225,7 +275,8 @@ pub fn answers_into(trace: &[u8], out: &mut [u8]) -> Replayed
             if out.len() < 12 * (number as usize) {
                 return Replayed::Short;
             }
-            let made = Board::new(head.model, head.divisor);
+            let model = head.model;
+            let made = Board::new(model, head.divisor);
             let board = made.board;
             Replayed::Written(tell(Form::Answers, trace, board, 0, number, out, 0))
         }

@@ -9,13 +9,12 @@ use Rattle.trace.specs.declared.operation.Operation.the-variants.{Reset}
 use Rattle.trace.specs.declared.rule.Rule.{Rule}
 use Rattle.trace.specs.declared.rule.Rule.the-variants.{None, Code, Target, Number}
 use Rattle.trace.specs.Rule.{brokenRule}
-use Rattle.trace.specs.Operation.{operationOf}
+use Rattle.trace.specs.Operation.{operationOf, NoneOfFour}
 
 -- what is no code below 8 is a reset
-pub last-code : (code target number : ℕ) → 7 < code → Reset ≡ operationOf code target number
-last-code code target number h =
-    let apart : (k : ℕ) → k ≤ 7 → code ≡ k → ⊥ = λ k l e. absurd (omega arith) in
-    simp (ne-eqb code 1 (apart 1 (omega arith)), ne-eqb code 2 (apart 2 (omega arith)), ne-eqb code 3 (apart 3 (omega arith)), ne-eqb code 4 (apart 4 (omega arith)), ne-eqb code 5 (apart 5 (omega arith)), ne-eqb code 6 (apart 6 (omega arith)), ne-eqb code 7 (apart 7 (omega arith)))
+pub last-code : (code target number : ℕ) → NoneOfFour code → (code ≡ 5 → ⊥) → (code ≡ 6 → ⊥) → (code ≡ 7 → ⊥) → Reset ≡ operationOf code target number
+last-code code target number few five six seven =
+    simp (ne-eqb code 1 (few .0), ne-eqb code 2 (few .1), ne-eqb code 3 (few .2), ne-eqb code 4 (few .3), ne-eqb code 5 five, ne-eqb code 6 six, ne-eqb code 7 seven)
 
 abbrev Kept : Rule → Type 0
 Kept None = Unit

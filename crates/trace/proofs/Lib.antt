@@ -1,5 +1,6 @@
 pub mod Codes
 pub mod Values
+pub mod Found
 pub mod Turns
 pub mod Indexed
 pub mod Back

@@ -2,6 +2,7 @@
 use Prim.Native.Nat.{ℕ, _+_, _*_}
 use mathlib.Core.Bool.{cond}
 use mathlib.Core.List.{List}
+use mathlib.Core.Path.{_≡_}
 use lib.Dec.{eqb}
 use lib.ListN.{getD}
 use Rattle.numbers.specs.Number.{numberAt}
@@ -23,6 +24,10 @@ operationOf code target number =
     (cond (eqb code 6) (CatchUp (record { 0 = number }))
     (cond (eqb code 7) (Run (record { 0 = number })) Reset))))))
 
+-- a code that is none of the first four
+abbrev pub NoneOfFour : ℕ → Type 0
+NoneOfFour code = (code ≡ 1 → ⊥) × (code ≡ 2 → ⊥) × (code ≡ 3 → ⊥) × (code ≡ 4 → ⊥)
+
 -- 12 "operation code not 1 to 8", 14 "a trace's ... target or number breaks its rule": each at its field
 abbrev pub judgedBy : {A : Type 0} → Rule → ℕ → A → Judgement A
 judgedBy None place value = sound value
@@ -43,3 +48,7 @@ placeOf index = 16 + 6 * index
 -- "Of an operation all six bytes, then code, target, number."
 unfoldable pub operationAt : List ℕ → ℕ → Judgement Operation
 operationAt bytes index = present bytes (placeOf index + 6) (sixBytes bytes (placeOf index))
+
+-- the operation of an index, where there is a sound one
+abbrev pub Finds : List ℕ → ℕ → Operation → Type 0
+Finds bytes index found = (o : Operation) → operationAt bytes index ≡ sound o → found ≡ o

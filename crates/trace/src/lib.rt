@@ -10,6 +10,7 @@ pub mod rule;
 pub use head::read_head;
 pub use judging::judge;
 pub use operation::operation_at;
+pub use operation::operation_in;
 use refusal::Refusal;
 
 // Why a trace is refused, and where: at the place of the field that breaks its rule, at the whole length where bytes are missing, at the first byte

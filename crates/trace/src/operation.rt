@@ -6,8 +6,8 @@ use numbers::number_at;
 use refusal::Refusal;
 use time::SystemTicks;
 ghost use mathlib.Core.Path.{_≡_};
-ghost use Prim.Native.Nat.{_≤_, _<_};
-ghost use Rattle.trace.specs.Operation.{operationOf, placeOf, operationAt};
+ghost use Prim.Native.Nat.{_<_};
+ghost use Rattle.trace.specs.Operation.{operationOf, NoneOfFour, placeOf, operationAt, Finds};
 ghost use Rattle.trace.specs.Answer.{operationJudged};
 
 // Ports and channels are as the trace has them: a bad one is refused when it is run.
@@ -32,9 +32,9 @@ pub enum OperationJudged {
     Refused(Fault),
 }
 
-// Codes 5 to 8.
+// Codes 5 to 8, and any other as 8.
 fn later_operation(code: u8, target: u8, number: u32) -> Operation
-    requires { ⌜ 5 ≤ code ⌝ }
+    requires { ⌜ NoneOfFour code ⌝ }
     ensures { λ r. ⌜ r ≡ operationOf code target number ⌝ }
 {
     match code {
@@ -46,12 +46,10 @@ fn later_operation(code: u8, target: u8, number: u32) -> Operation
 }
 
 fn operation_of(code: u8, target: u8, number: u32) -> Operation
-    requires { ⌜ 1 ≤ code ⌝ }
-    requires { ⌜ (code ≡ 1 → number < 256) ⌝ }
-    ensures { λ r. ⌜ r ≡ operationOf code target number ⌝ }
+    ensures { λ r. ⌜ ((code ≡ 1 → number < 256) → r ≡ operationOf code target number) ⌝ }
 {
     match code {
-        1 => Operation::WritePort(target, number as u8),
+        1 => Operation::WritePort(target, (number % 256) as u8),
         2 => Operation::ReadPort(target),
         3 => Operation::SetChannelGate(target, number == 1),
         4 => Operation::Counts(target, number),
@@ -90,4 +88,20 @@ pub fn operation_at(bytes: &[u8], index: u32) -> OperationJudged
         Rule::Number => refused(Refusal::RuleBroken, place + 2),
         Rule::None => OperationJudged::Sound(operation_of(code, target, number)),
     }
+}
+
+// The operation of an index of a sound trace. Of another trace it is some operation, which nobody asks for. It is no judgement: the runner asks after the
+// whole trace was judged, and a judgement around each operation would be put together and taken apart for nothing.
+pub fn operation_in(bytes: &[u8], index: u32) -> Operation
+    ensures { λ r. ⌜ Finds (now (bytes .entry)) index r ⌝ }
+{
+    let place = place_of(index);
+    if bytes.len() < place + 6 {
+        return Operation::Reset;
+    }
+    operation_of(
+        bytes[place],
+        bytes[place + 1],
+        number_at(bytes, place + 2),
+    )
 }

@@ -28,7 +28,7 @@ use Rattle.turn.specs.declared.finding.Work.{Work}
 use Rattle.turn.specs.declared.finding.Work.the-variants as work
 use Rattle.turn.specs.declared.finding.Turn.{Turn}
 use Rattle.turn.specs.declared.finding.Turn.the-variants as turn
-use Rattle.turn.specs.declared.working.Worked.{Worked}
+use Rattle.turn.specs.declared.raising.Raised.{Raised}
 use Rattle.turn.specs.declared.elapsing.Elapsed.{Elapsed}
 use Rattle.turn.specs.Asked.{lent}
 
@@ -103,9 +103,9 @@ OnBoard (turn.Elapse given next defers) = Unit
 OnBoard turn.Reset = Unit
 OnBoard (turn.Say answer) = Unit
 
--- what the code answers, with the lent bytes at its end
-abbrev pub workDone : Worked → List ℕ → WorkDone
-workDone r events = record { reply = replyOf (r .answer); channel = r .channel; events = events }
+-- what the code answers for a new record's event; the new record stands, since two bytes are enough for every event
+abbrev pub raised : Raised → Channel → WorkDone
+raised r new = record { reply = replyOf (r .answer); channel = new; events = r .events }
 
 -- .. and for the board's time
 abbrev pub timeDone : Elapsed → TimeDone

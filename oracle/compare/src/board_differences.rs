@@ -10,9 +10,6 @@ use original::pit::standing_board::StandingBoard;
 use std::process::{Command, Stdio};
 use std::time::{Duration, Instant};
 
-/// How long a run that should end gets.
-const PATIENCE: Duration = Duration::from_millis(200);
-
 pub struct BoardBench<'a> {
     calls: &'a mut Ours,
     ours: Board,
@@ -78,8 +75,9 @@ impl<'a> BoardBench<'a> {
                 let channel = number(channel)? as u16;
                 (operation(17, channel, 0), self.original.output_state(channel))
             }
-            ["run", ticks, "in", "a", "child"] => {
-                let seen = comes_back(number_at(&self.ours, DIVISOR), number(ticks)?)?;
+            ["run", ticks, "for", patience, "ms"] => {
+                let patience = Duration::from_millis(number(patience)?.into());
+                let seen = comes_back(number_at(&self.ours, DIVISOR), number(ticks)?, patience)?;
                 (operation(7, 0, number(ticks)?), Ok(if seen { "back" } else { "endless" }.to_string()))
             }
             _ => return Err(format!("not a step: {}", words.join(" "))),
@@ -198,12 +196,12 @@ fn number(word: &str) -> Result<u32, String> {
 }
 
 /// Whether the original's `run` comes back in time on a new board. It runs in a process of its own, which is ended if it does not.
-fn comes_back(divisor: u32, ticks: u32) -> Result<bool, String> {
+fn comes_back(divisor: u32, ticks: u32, patience: Duration) -> Result<bool, String> {
     let program = std::env::current_exe().map_err(|error| error.to_string())?;
     let words = ["original-run".to_string(), divisor.to_string(), ticks.to_string()];
     let mut child = Command::new(program).args(words).stdout(Stdio::null()).spawn().map_err(|error| error.to_string())?;
     let started = Instant::now();
-    while started.elapsed() < PATIENCE {
+    while started.elapsed() < patience {
         if let Some(status) = child.try_wait().map_err(|error| error.to_string())? {
             return if status.success() { Ok(true) } else { Err("the child failed".to_string()) };
         }

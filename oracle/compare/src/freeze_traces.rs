@@ -3,24 +3,30 @@
 
 use crate::ours::Ours;
 use crate::random::Random;
+use crate::trace_exhaustive::program;
 use crate::trace_frame::TraceFrame;
 use crate::trace_judge::case_r;
+use crate::trace_random::trace_of;
 use crate::trace_reader::MOST_OPERATIONS;
 use crate::trace_replay::replay as replay_on_the_original;
 use original::pit::board_operation::BoardOracle;
 
 const SEED: u64 = 8256;
-const SOUND: usize = 60;
+const SOUND: usize = 48;
 /// Of each refusal of a trace.
 const REFUSED: usize = 8;
 const REFUSALS: [u32; 7] = [3, 9, 10, 11, 12, 13, 14];
 /// No trace is longer but the last, which has as many operations as there may be.
 const MOST_BYTES: usize = 2_000;
 
-/// Case R, sound traces, as many damaged ones of each refusal, and the longest.
+/// Case R, small programs, sound traces, as many damaged ones of each refusal, and the longest.
 fn traces() -> Vec<Vec<u8>> {
     let (mut random, mut oracle) = (Random(SEED), BoardOracle::default());
     let mut traces = vec![case_r(), case_r()[..16].to_vec()];
+    // A gate that falls and rises, and one that stays low, in every mode.
+    for (mode, ways) in (0..6).flat_map(|mode| [(mode, 0x10), (mode, 0x08)]) {
+        traces.push(trace_of(mode & 1, 12, &program((mode % 3) as u8, mode, 1, ways)));
+    }
     for turn in 0..SOUND {
         let number = if turn == 0 { 330 } else { random.below(40) };
         traces.push(random.sound_trace(&mut oracle, number));

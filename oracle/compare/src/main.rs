@@ -22,6 +22,7 @@ mod ours;
 mod random;
 mod refusals;
 mod samples;
+mod trace_exhaustive;
 mod trace_frame;
 mod trace_judge;
 mod trace_random;

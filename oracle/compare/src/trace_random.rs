@@ -3,10 +3,10 @@
 use crate::random::Random;
 use crate::trace_reader::{Operation, MOST_OPERATIONS};
 use crate::trace_replay::on_a_board;
-use original::pit::board::{fresh, Board};
+use original::pit::board::{self, Board};
 use original::pit::board_operation::{BoardOracle, Events};
 
-pub const LENT: Events = Events { bytes: [0; 8], len: 2 };
+const LENT: Events = Events { bytes: [0; 8], len: 2 };
 
 /// The places of the head's fields, and where the operations begin.
 const SETTINGS: usize = 0;
@@ -33,6 +33,17 @@ fn put(trace: &mut [u8], place: usize, number: u32) {
     trace[place..place + 4].copy_from_slice(&number.to_le_bytes());
 }
 
+/// The same operation on one channel, so that what a trace does meets; 3 leaves it, and so do bad ports and channels.
+fn focused(operation: Operation, channel: u8) -> Operation {
+    match (operation.code, operation.target) {
+        _ if channel == 3 => operation,
+        (1, 0x43) => Operation { number: operation.number & 0x3F | u32::from(channel) << 6, ..operation },
+        (1 | 2, 0x40..=0x42) => Operation { target: 0x40 + channel, ..operation },
+        (3..=5, 0..=2) => Operation { target: channel, ..operation },
+        _ => operation,
+    }
+}
+
 impl Random {
     /// An operation for a trace that stands at this board.
     fn trace_operation(&mut self, board: &Board) -> Operation {
@@ -47,11 +58,11 @@ impl Random {
     /// A sound trace with so many operations, made while it runs on the original, so that its times are about the board's.
     pub fn sound_trace(&mut self, oracle: &mut BoardOracle, number: u64) -> Vec<u8> {
         let mut board = self.fresh_board();
-        let (model, divisor) = (board[original::pit::board::MODEL], original::pit::board::number_at(&board, original::pit::board::DIVISOR));
-        assert_eq!(board, fresh(model, divisor));
+        let (model, divisor) = (board[board::MODEL], board::number_at(&board, board::DIVISOR));
+        let focus = self.below(4) as u8;
         let mut operations = Vec::new();
         for _ in 0..number {
-            let operation = self.trace_operation(&board);
+            let operation = focused(self.trace_operation(&board), focus);
             board = oracle.operation(&board, &LENT, on_a_board(operation)).board;
             operations.push(operation);
         }

@@ -4,7 +4,7 @@ use crate::board_judge::BoardJudge;
 use crate::judge::Judge;
 use crate::ours::Ours;
 use crate::trace_judge::TraceJudge;
-use crate::{board_exhaustive, board_operations, board_random, board_refusals, operations, trace_judge};
+use crate::{board_exhaustive, board_operations, board_random, board_refusals, operations, trace_exhaustive, trace_judge};
 use crate::{differences, exhaustive, random, refusals, samples};
 use std::time::Instant;
 
@@ -71,6 +71,7 @@ fn boards(ours: &mut Ours, operations: u64, seed: u64) -> Compared {
 fn traces(ours: &mut Ours, operations: u64, seed: u64) -> Compared {
     let started = Instant::now();
     let mut judge = TraceJudge::new(ours);
+    trace_exhaustive::run(&mut judge);
     trace_judge::run(&mut judge, operations / OPERATIONS_A_TRACE, seed);
     let damaged: Vec<String> = [3, 9, 10, 11, 12, 13, 14].map(|number| format!("{number}: {}", judge.damaged[number])).to_vec();
     println!("sound traces: {} with {} operations", judge.sound, judge.operations);

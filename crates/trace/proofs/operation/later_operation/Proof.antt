@@ -1,12 +1,10 @@
 -- `trace::operation::later_operation` meets its contract. Assumes nothing.
-use Prim.Native.Nat.{_<_}
-use native.Mathlib.Omega.{arith}
 use Rattle.trace.proofs.Codes.{last-code}
 use Rattle.trace.proofs.operation.later_operation.Statement.{statement}
 use Rattle.trace.proofs.operation.later_operation.Tie as tie
 
 returns-4 : tie.Need-returns-4
-returns-4 c = let a = c .before .args in let h : 7 < a .code = omega arith in last-code (a .code) (a .target) (a .number) h
+returns-4 c = let a = c .before .args in let rest = c .match .rest in last-code (a .code) (a .target) (a .number) (c .before .pre) (rest .0 .0 .1) (rest .0 .1) (rest .1)
 
 pub later-operation-spec : {M : Type 1} → statement M
 later-operation-spec =

@@ -31,12 +31,6 @@ returns : tie.Need-returns
 unfolding operationAt
 returns c = simp (sym (c .before .before .place-of .ensures), c .refused .ensures, lt-ltb _ _ (c .before .if1 .taken))
 
-operation-of-requires : tie.Need-operation-of-requires
-operation-of-requires c κs =
-    let at-rule = c .before .before in
-    let bytes = start at-rule .args .bytes .now in
-    kept (getD bytes (place at-rule) 0) (getD bytes (place at-rule + 1) 0) (at-rule .before .number-at .result) (sym (c .before .before .broken-rule .ensures) ∙ c .enum-told4 .given .1)
-
 returns-2 : tie.Need-returns-2
 returns-2 c = simp (c .refused2 .ensures, judged (c .before .before .before), c .before .enum-told .given .1)
 
@@ -47,7 +41,11 @@ returns-4 : tie.Need-returns-4
 returns-4 c = simp (c .refused4 .ensures, judged (c .before .before .before), c .before .enum-told3 .given .1)
 
 returns-5 : tie.Need-returns-5
-returns-5 c = simp (c .operation-of .ensures, judged (c .before .before .before), c .before .enum-told4 .given .1)
+returns-5 c =
+    let at-rule = c .before .before .before in
+    let bytes = start at-rule .args .bytes .now in
+    let fits = kept (getD bytes (place at-rule) 0) (getD bytes (place at-rule + 1) 0) (at-rule .before .number-at .result) (sym (at-rule .broken-rule .ensures) ∙ c .before .enum-told4 .given .1) .1 in
+    simp (c .operation-of .ensures fits, judged at-rule, c .before .enum-told4 .given .1)
 
 pub operation-at-spec : {M : Type 1} → statement M
 operation-at-spec =
@@ -72,7 +70,7 @@ operation-at-spec =
     (λ c. search needs)
     (λ c κs. search needs)
     (λ c. search needs)
-    operation-of-requires
+    (λ c κs. search needs)
     returns-2
     returns-3
     returns-4
