@@ -55,6 +55,6 @@ unfoldable pub loadBoard : List ℕ → BoardLoaded
 loadBoard bytes =
     cond (ltb (length bytes) 101) (none Short)
     (withRecord (recordAt bytes 0) (λ c0.
-     withRecord (recordAt bytes 29) (λ c1.
-     withRecord (recordAt bytes 58) (λ c2.
-     cond (ownReadable bytes) (whole (boardOf c0 c1 c2 bytes)) (none Unreadable)))))
+    withRecord (recordAt bytes 29) (λ c1.
+    withRecord (recordAt bytes 58) (λ c2.
+    cond (ownReadable bytes) (whole (boardOf c0 c1 c2 bytes)) (none Unreadable)))))

@@ -88,10 +88,16 @@ pub fn operation_of(code: u8, target: u16, number: u32) -> Asked
         return Asked::Known(Operation::Counts(target, number));
     }
     if code == 6 {
-        return zero_or(target as u32, Asked::Known(Operation::CatchUp(SystemTicks(number))));
+        return zero_or(
+            target as u32,
+            Asked::Known(Operation::CatchUp(SystemTicks(number))),
+        );
     }
     if code == 7 {
-        return zero_or(target as u32, Asked::Known(Operation::Run(SystemTicks(number))));
+        return zero_or(
+            target as u32,
+            Asked::Known(Operation::Run(SystemTicks(number))),
+        );
     }
     zero_or(number, bare_asked(code, target))
 }

@@ -107,11 +107,21 @@ pub fn operate(b: Board, operation: Operation, events: &mut [u8], place: usize) 
     ensures { λ r. ⌜ made r (now (events .exit)) ≡ operate b operation (now (events .entry)) place ⌝ }
 {
     match operation {
-        Operation::WritePort(port, byte) => answered(ports::write_port(b, port, byte, events, place)),
+        Operation::WritePort(port, byte) => answered(ports::write_port(
+            b,
+            port,
+            byte,
+            events,
+            place,
+        )),
         Operation::ReadPort(port) => answered(ports::read_port(b, port)),
-        Operation::SetChannelGate(channel, level) => answered(
-            ports::set_channel_gate(b, channel as usize, level, events, place),
-        ),
+        Operation::SetChannelGate(channel, level) => answered(ports::set_channel_gate(
+            b,
+            channel as usize,
+            level,
+            events,
+            place,
+        )),
         Operation::Counts(channel, number) => answered(b.counts(channel as usize, number)),
         Operation::LoadCycle(channel) => answered(b.load_cycle(channel as usize)),
         Operation::CatchUp(ticks) => answered(clock::catch_up(b, ticks)),

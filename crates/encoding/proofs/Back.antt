@@ -33,11 +33,11 @@ use Rattle.encoding.proofs.Length.{bytes-length}
 
 -- A byte that is stored is within its limit, and means what was stored.
 
-flag-within : (b : Bool) → ltb 1 (flagNumber b) ≡ false
+pub flag-within : (b : Bool) → ltb 1 (flagNumber b) ≡ false
 flag-within true = refl
 flag-within false = refl
 
-flag-back : (b : Bool) → flagCoded (flagNumber b) ≡ b
+pub flag-back : (b : Bool) → flagCoded (flagNumber b) ≡ b
 flag-back true = refl
 flag-back false = refl
 

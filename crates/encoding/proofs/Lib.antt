@@ -2,3 +2,5 @@ pub mod Readable
 pub mod Length
 pub mod Back
 pub mod Order
+pub mod Spelled
+pub mod Only
