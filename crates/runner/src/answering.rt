@@ -3,50 +3,64 @@ use board::Answer;
 use time::SystemTicks;
 ghost use mathlib.Core.Path.{_≡_};
 ghost use Rattle.board.specs.Answer.{replyOf};
-ghost use Rattle.runner.specs.Answers.{refusalIn, writtenIn, valueIn, answerBytes};
+ghost use Rattle.runner.specs.Answers.{saidIn, answerBytes};
 
-fn refusal_in(answer: Answer) -> u8
-    ensures { λ r. ⌜ r ≡ refusalIn (replyOf answer) ⌝ }
+// The refusal's number, how many event bytes were written, and the byte or the ticks answered; each 0 where there is none.
+pub struct Said {
+    pub refusal: u8,
+    pub written: u8,
+    pub value: u32,
+}
+
+fn saying(written: u8, value: u32) -> Said
+    ensures { λ r. ⌜ r ≡ record { refusal = 0; written = written; value = value } ⌝ }
 {
-    let Answer::Refused(refusal) = answer else {
-        return 0;
-    };
-    refusal.number()
+    Said {
+        refusal: 0,
+        written,
+        value,
+    }
 }
 
 // The events were lent at place 0, so a new place above 0 says that two bytes were written.
-fn written_in(answer: Answer) -> u8
-    ensures { λ r. ⌜ r ≡ writtenIn (replyOf answer) ⌝ }
+fn place_said(at: usize) -> Said
+    ensures { λ r. ⌜ r ≡ saidIn (replyOf (Answer.Place at)) ⌝ }
 {
-    let Answer::Place(at) = answer else {
-        return 0;
-    };
     if at == 0 {
-        return 0;
+        return saying(0, 0);
     }
-    2
+    saying(2, 0)
 }
 
-fn value_in(answer: Answer) -> u32
-    ensures { λ r. ⌜ r ≡ valueIn (replyOf answer) ⌝ }
+fn said_in(answer: Answer) -> Said
+    ensures { λ r. ⌜ r ≡ saidIn (replyOf answer) ⌝ }
 {
-    let Answer::Byte(byte) = answer else {
-        let Answer::Ticks(number) = answer else {
-            return 0;
-        };
-        return number.0;
-    };
-    byte as u32
+    match answer {
+        Answer::Refused(refusal) => Said {
+            refusal: refusal.number(),
+            written: 0,
+            value: 0,
+        },
+        Answer::Place(at) => place_said(at),
+        Answer::Byte(byte) => saying(0, byte as u32),
+        Answer::Ticks(number) => saying(0, number.0),
+        Answer::Done => saying(0, 0),
+        Answer::OutputState(_) => saying(0, 0),
+        Answer::Count(_) => saying(0, 0),
+        Answer::Retriggers(_) => saying(0, 0),
+        Answer::Dirty(_, _, _) => saying(0, 0),
+    }
 }
 
 pub(crate) fn answer_bytes(answer: Answer, events: [u8; 2], left: SystemTicks) -> [u8; 12]
     ensures { λ r. ⌜ r ≡ answerBytes (replyOf answer) events (left .0) ⌝ }
 {
-    let value = encoding::four_bytes(value_in(answer));
+    let said = said_in(answer);
+    let value = encoding::four_bytes(said.value);
     let rest = encoding::four_bytes(left.0);
     [
-        refusal_in(answer),
-        written_in(answer),
+        said.refusal,
+        said.written,
         events[0],
         events[1],
         value[0],

@@ -7,25 +7,36 @@ use crate::trace_exhaustive::program;
 use crate::trace_frame::TraceFrame;
 use crate::trace_judge::case_r;
 use crate::trace_random::trace_of;
-use crate::trace_reader::MOST_OPERATIONS;
+use crate::trace_reader::{Operation, MOST_OPERATIONS};
 use crate::trace_replay::replay as replay_on_the_original;
 use original::pit::board_operation::BoardOracle;
 
 const SEED: u64 = 8256;
-const SOUND: usize = 48;
+const SOUND: usize = 44;
 /// Of each refusal of a trace.
-const REFUSED: usize = 8;
+const REFUSED: usize = 7;
 const REFUSALS: [u32; 7] = [3, 9, 10, 11, 12, 13, 14];
 /// No trace is longer but the last, which has as many operations as there may be.
 const MOST_BYTES: usize = 2_000;
 
-/// Case R, small programs, sound traces, as many damaged ones of each refusal, and the longest.
+/// Operations at the limits of the rules, and just past them.
+const EDGES: [(u8, u8, u32); 8] =
+    [(1, 0x43, 255), (1, 0x43, 256), (3, 0, 1), (3, 0, 2), (4, 1, 65_536), (4, 1, 65_537), (6, 1, 0), (9, 0, 0)];
+
+/// Case R, small programs, operations at the limits, sound traces, as many damaged ones of each refusal, and the longest.
 fn traces() -> Vec<Vec<u8>> {
     let (mut random, mut oracle) = (Random(SEED), BoardOracle::default());
     let mut traces = vec![case_r(), case_r()[..16].to_vec()];
     // A gate that falls and rises, and one that stays low, in every mode.
     for (mode, ways) in (0..6).flat_map(|mode| [(mode, 0x10), (mode, 0x08)]) {
         traces.push(trace_of(mode & 1, 12, &program((mode % 3) as u8, mode, 1, ways)));
+    }
+    // A reset that keeps a low gate, whose rise then loads.
+    for c in 0..3 {
+        traces.push(trace_of(0, 12, &program(c, 1, 1, 0x58)));
+    }
+    for (code, target, number) in EDGES {
+        traces.push(trace_of(1, 12, &[Operation { code, target, number }]));
     }
     for turn in 0..SOUND {
         let number = if turn == 0 { 330 } else { random.below(40) };

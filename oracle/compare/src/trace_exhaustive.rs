@@ -48,16 +48,20 @@ fn heads(judge: &mut TraceJudge, random: &mut Random) {
 fn programs(judge: &mut TraceJudge, random: &mut Random) {
     let kinds = (0..3u8).flat_map(|c| (0..6u32).flat_map(move |mode| (1..4u32).map(move |access| (c, mode, access))));
     for (c, mode, access) in kinds {
-        for ways in 0..64 {
+        for ways in 0..128 {
             judge.ask(&trace_of(ways & 1, 1 + ways, &program(c, mode, access, ways)), random);
         }
     }
 }
 
-/// The bits of `ways` say which gates there are, whether the board catches up first, whether the count is latched, and the radix.
+/// The bits of `ways` say which gates there are, whether the board catches up first, whether the count is latched, the radix, and whether a reset of a low
+/// gate comes before all, which a rising gate shows.
 pub fn program(c: u8, mode: u32, access: u32, ways: u32) -> Vec<Operation> {
     let (port, bit) = (0x40 + c, |place: u32| ways >> place & 1);
     let mut operations = vec![operation(7, 0, 50)];
+    if bit(6) == 1 {
+        operations.extend([operation(3, c, 0), operation(8, 0, 0)]);
+    }
     if bit(1) == 1 {
         operations.push(operation(6, 0, 20));
     }

@@ -1,0 +1,53 @@
+-- `runner::say` meets its contract. Assumes nothing.
+use Prim.Native.Nat.{ℕ, _≤_}
+use mathlib.Core.Path.{ap, _∙_}
+use mathlib.Core.List.{List}
+use native.Mathlib.Omega.{arith}
+use denote.Ref.{now}
+use lib.ListN.{length}
+use borrow.Author.Needs.{needs}
+use Rattle.refusal.specs.Reply.{Reply}
+use Rattle.board.specs.Outcome.{Value}
+use Rattle.board.specs.Answer.{replyOf}
+use Rattle.text.specs.Put.{put}
+use Rattle.line.proofs.Back.{line-fits, line-back}
+use Rattle.runner.specs.Answers.{answerBytes}
+use Rattle.runner.proofs.say.Statement.{statement}
+use Rattle.runner.proofs.say.Tie as tie
+
+put-line-requires : tie.Need-put-line-requires
+put-line-requires c κs = line-fits _ _ (c .before .operation-line .ensures .0)
+
+returns : tie.Need-returns
+returns c =
+    let line = c .before .before .before .before .operation-line in
+    let a = c .before .before .before .before .before .before .before .before .args in
+    let said = c .before .before .put-line .ensures ∙ ap (λ (text : List ℕ). put text (now (a .out)) (a .place)) (line-back _ _ (line .ensures .0)) in
+    rw (c .before .before .before .before .before .enum-told .given .1) (said, line .ensures .1)
+
+answer-length : (reply : Reply Value) (events : List ℕ) (left : ℕ) → length (answerBytes reply events left) ≤ 12
+unfolding answerBytes
+answer-length reply events left = omega arith
+
+returns-2 : tie.Need-returns-2
+returns-2 c =
+    let bytes = c .before .before .before .before .before .answer-bytes in
+    let a = c .before .before .before .before .before .before .before .before .before .args in
+    let said = c .before .before .put .ensures ∙ ap (λ (text : List ℕ). put text (now (a .out)) (a .place)) (bytes .ensures) in
+    rw (c .before .before .before .before .before .before .enum-told2 .given .1) (said, answer-length (replyOf (a .answer)) (a .events) (a .left .0))
+
+pub say-spec : {M : Type 1} → statement M
+say-spec =
+    tie.close
+    (tie.spec
+    (λ c. search needs)
+    (λ c κs. search needs)
+    put-line-requires
+    (λ c. search needs)
+    (λ c κs. search needs)
+    (λ c. search needs)
+    (λ c κs. search needs)
+    (λ c. search needs)
+    returns
+    (λ c. search needs)
+    returns-2)
