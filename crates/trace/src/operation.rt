@@ -99,9 +99,5 @@ pub fn operation_in(bytes: &[u8], index: u32) -> Operation
     if bytes.len() < place + 6 {
         return Operation::Reset;
     }
-    operation_of(
-        bytes[place],
-        bytes[place + 1],
-        number_at(bytes, place + 2),
-    )
+    operation_of(bytes[place], bytes[place + 1], number_at(bytes, place + 2))
 }

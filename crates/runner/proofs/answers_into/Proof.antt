@@ -1,68 +1,69 @@
+-- `runner::answers_into` meets its contract. Assumes nothing.
+use mathlib.Core.Path.{refl, sym, ap, _∙_}
+use native.Mathlib.Omega.{arith}
+use denote.Ref.{now}
 use borrow.Author.Needs.{needs}
+use Rattle.refusal.specs.Refusal.{refusalNumber}
+use Rattle.board.specs.Outcome.{Outcome}
+use Rattle.text.proofs.Puts.{wrote}
+use Rattle.trace.specs.Trace.{operationsFrom, traceOf}
+use Rattle.trace.specs.Answer.{headJudged, operationsOf}
+use Rattle.trace.proofs.Sound.{judged-sound, judged-refused}
+use Rattle.runner.specs.declared.Form.the-variants.{Answers}
+use Rattle.runner.specs.Printed.{toldFrom}
+use Rattle.runner.specs.Lent.{answersOf, answersInto}
+use Rattle.runner.proofs.Whole.{new-board, prints}
+use Rattle.runner.proofs.Lent.{no-room, in-room, operations-are}
 use Rattle.runner.proofs.answers_into.Statement.{statement}
 use Rattle.runner.proofs.answers_into.Tie as tie
-use Rattle.runner.proofs.answers_into.Reads as reads
-use Rattle.runner.proofs.answers_into.Lts as lts
-use Rattle.board.proofs.Board.new.Reads as new-reads
-use Rattle.runner.proofs.tell.Reads as tell-reads
-use Rattle.trace.proofs.judge.Reads as judge-reads
 
--- src/lib.rt:267:9
-judge-requires : tie.Need-judge-requires
-judge-requires c κs = search needs
-
--- src/lib.rt:269:25
-enum-known-judged : tie.Need-enum-known-judged
-enum-known-judged c = search needs
-
--- src/lib.rt:273:23
-enum-known-judged-2 : tie.Need-enum-known-judged-2
-enum-known-judged-2 c = search needs
-
--- src/lib.rt:275:34
-cast-if1 : tie.Need-cast-if1
-cast-if1 c = search needs
-
--- src/lib.rt:275:28
-mul-if1 : tie.Need-mul-if1
-mul-if1 c = search needs
-
--- src/lib.rt:276:17
 returns : tie.Need-returns
-returns c = ?
+unfolding answersInto
+returns c =
+    let a = c .before .before .before .before .before .before .before .args in
+    let told = c .before .before .judged2 .given in
+    let whole = judged-sound (now (a .trace)) (told .0 .0) (sym (c .before .before .before .before .judge .ensures) ∙ ap headJudged (told .1)) in
+    rw (whole .whole) (rw (operations-are (now (a .trace)) (told .0 .0) whole) (no-room _ (answersOf (traceOf (told .0 .0) (operationsOf (operationsFrom (now (a .trace)) 0 (told .0 .0 .operations))))) (now (a .out)) (c .if1 .taken)))
 
--- src/lib.rt:279:17
-new-requires : tie.Need-new-requires
-new-requires c κs = search needs
-
--- src/lib.rt:281:31
 tell-requires : tie.Need-tell-requires
-tell-requires c κs = ?
+tell-requires c κs =
+    let told = c .before .before .before .before .before .judged2 .given in
+    let whole = judged-sound _ (told .0 .0) (sym (c .before .before .before .before .before .before .before .judge .ensures) ∙ ap headJudged (told .1)) in
+    (whole .all-sound, (omega (arith, whole .not-too-many), omega (arith, c .before .before .before .if1 .left)))
 
--- src/lib.rt:264:1
 returns-2 : tie.Need-returns-2
-returns-2 c = ?
+unfolding answersInto
+returns-2 c =
+    let a = c .before .before .before .before .before .before .args in
+    let fault = c .before .judged .given in
+    rw (judged-refused (now (a .trace)) (refusalNumber (fault .0 .0 .refusal)) (fault .0 .0 .place) (sym (c .before .before .before .judge .ensures) ∙ ap headJudged (fault .1))) refl
 
--- src/lib.rt:264:1
-same-length : tie.Need-same-length
-same-length c = search needs
-
--- src/lib.rt:264:1
 returns-3 : tie.Need-returns-3
-returns-3 c = ?
+unfolding answersInto
+returns-3 c =
+    let a = c .before .before .before .before .before .before .before .before .before .before .before .before .before .args in
+    let told = c .before .before .before .before .before .before .before .before .judged2 .given in
+    let whole = judged-sound (now (a .trace)) (told .0 .0) (sym (c .before .before .before .before .before .before .before .before .before .before .judge .ensures) ∙ ap headJudged (told .1)) in
+    let room = c .before .before .before .before .before .before .if1 .left in
+    let made = c .before .before .before .before .before .new in
+    let board = ap (λ (o : Outcome). o .board) (made .ensures) ∙ new-board (told .0 .0 .model) (told .0 .0 .divisor) in
+    let said = c .before .before .tell in
+    let text = toldFrom Answers (made .result .board) 0 (operationsOf (operationsFrom (now (a .trace)) 0 (told .0 .0 .operations))) in
+    let all = prints (wrote text (now (a .out)) 0 _ _ (said .ensures .0)) (omega (arith, said .ensures .1, room)) in
+    rw (whole .whole) (rw (operations-are (now (a .trace)) (told .0 .0) whole) (rw⁻¹ board (in-room _ text (now (a .out)) _ _ room all)))
 
 pub answers-into-spec : {M : Type 1} → statement M
 answers-into-spec =
     tie.close
     (tie.spec
-    judge-requires
-    enum-known-judged
-    enum-known-judged-2
-    cast-if1
-    mul-if1
+    (λ c κs. search needs)
+    (λ c. search needs)
+    (λ c. search needs)
+    (λ c. search needs)
+    (λ c. search needs)
     returns
-    new-requires
+    (λ c κs. search needs)
     tell-requires
     returns-2
-    same-length
+    (λ c. search needs)
     returns-3)

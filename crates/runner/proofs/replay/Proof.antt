@@ -21,7 +21,7 @@ replay-sound-requires : tie.Need-replay-sound-requires
 replay-sound-requires c κs =
     let told = c .before .before .judged2 .given in
     let whole = judged-sound _ _ (sym (c .before .before .before .before .judge .ensures) ∙ ap headJudged (told .1)) in
-    (whole .all-sound, whole .not-too-many)
+    (whole .all-sound, (whole .not-too-many, omega (arith, whole .not-too-many)))
 
 returns : tie.Need-returns
 unfolding printed

@@ -1,89 +1,81 @@
+-- `runner::replay_into` meets its contract. Assumes nothing.
+use mathlib.Core.Path.{sym, ap, _∙_}
+use native.Mathlib.Omega.{arith}
+use denote.Ref.{now}
 use borrow.Author.Needs.{needs}
+use Rattle.refusal.specs.Refusal.{refusalNumber}
+use Rattle.line.specs.Lines.{faultLine}
+use Rattle.line.proofs.Back.{line-fits}
+use Rattle.text.proofs.Puts.{wrote}
+use Rattle.trace.specs.Answer.{headJudged}
+use Rattle.trace.proofs.Sound.{judged-sound, judged-refused}
+use Rattle.runner.specs.Printed.{printed}
+use Rattle.runner.proofs.Whole.{line-put, prints}
+use Rattle.runner.proofs.Lent.{room-refused, room-sound, too-short, written}
 use Rattle.runner.proofs.replay_into.Statement.{statement}
 use Rattle.runner.proofs.replay_into.Tie as tie
-use Rattle.runner.proofs.replay_into.Reads as reads
-use Rattle.runner.proofs.replay_into.Lts as lts
-use Rattle.line.proofs.fault_line.Reads as fault-line-reads
-use Rattle.runner.proofs.put_line.Reads as put-line-reads
-use Rattle.runner.proofs.replay_sound.Reads as replay-sound-reads
-use Rattle.trace.proofs.judge.Reads as judge-reads
 
--- src/lib.rt:244:9
-judge-requires : tie.Need-judge-requires
-judge-requires c κs = search needs
-
--- src/lib.rt:246:25
-enum-known-judged : tie.Need-enum-known-judged
-enum-known-judged c = search needs
-
--- src/lib.rt:248:17
 returns : tie.Need-returns
-returns c = ?
+returns c =
+    let a = c .before .before .before .before .before .before .before .args in
+    let fault = c .before .before .judged .given in
+    let is = judged-refused (now (a .trace)) (refusalNumber (fault .0 .0 .refusal)) (fault .0 .0 .place) (sym (c .before .before .before .before .judge .ensures) ∙ ap headJudged (fault .1)) in
+    too-short (now (a .trace)) (now (a .out)) _ (room-refused (now (a .trace)) _ _ is) (c .if1 .taken)
 
--- src/lib.rt:251:17
-fault-line-requires : tie.Need-fault-line-requires
-fault-line-requires c κs = search needs
-
--- src/lib.rt:252:31
 put-line-requires : tie.Need-put-line-requires
-put-line-requires c κs = ?
+put-line-requires c κs = line-fits _ _ (c .before .fault-line .ensures .0)
 
--- src/lib.rt:254:23
-enum-known-judged-2 : tie.Need-enum-known-judged-2
-enum-known-judged-2 c = search needs
-
--- src/lib.rt:255:34
-cast-if2 : tie.Need-cast-if2
-cast-if2 c = search needs
-
--- src/lib.rt:255:34
-add-if2 : tie.Need-add-if2
-add-if2 c = search needs
-
--- src/lib.rt:255:28
-mul-if2 : tie.Need-mul-if2
-mul-if2 c = search needs
-
--- src/lib.rt:256:17
 returns-2 : tie.Need-returns-2
-returns-2 c = ?
+returns-2 c =
+    let a = c .before .before .before .before .before .before .before .before .args in
+    let told = c .before .before .before .judged2 .given in
+    let whole = judged-sound (now (a .trace)) (told .0 .0) (sym (c .before .before .before .before .before .judge .ensures) ∙ ap headJudged (told .1)) in
+    too-short (now (a .trace)) (now (a .out)) _ (room-sound (now (a .trace)) (told .0 .0) whole) (c .if2 .taken)
 
--- src/lib.rt:258:31
 replay-sound-requires : tie.Need-replay-sound-requires
-replay-sound-requires c κs = ?
+replay-sound-requires c κs =
+    let told = c .before .before .before .before .judged2 .given in
+    let whole = judged-sound _ (told .0 .0) (sym (c .before .before .before .before .before .before .judge .ensures) ∙ ap headJudged (told .1)) in
+    (whole .all-sound, (whole .not-too-many, c .before .if2 .left))
 
--- src/lib.rt:241:1
-same-length : tie.Need-same-length
-same-length c = search needs
-
--- src/lib.rt:241:1
 returns-3 : tie.Need-returns-3
-returns-3 c = ?
+unfolding printed
+returns-3 c =
+    let a = c .before .before .before .before .before .before .before .before .before .before .before .before .args in
+    let fault = c .before .before .before .before .before .before .before .judged .given in
+    let number = refusalNumber (fault .0 .0 .refusal) in
+    let is = judged-refused (now (a .trace)) number (fault .0 .0 .place) (sym (c .before .before .before .before .before .before .before .before .before .judge .ensures) ∙ ap headJudged (fault .1)) in
+    let line = c .before .before .before .before .fault-line in
+    let text = faultLine number (fault .0 .0 .place) in
+    let room = c .before .before .before .before .before .if1 .left in
+    let all = prints (wrote text (now (a .out)) 0 _ _ (line-put _ text _ _ _ _ (line .ensures .0) (c .before .before .put-line .ensures))) (omega (arith, line .ensures .1, room)) in
+    written (now (a .trace)) (now (a .out)) _ (room-refused (now (a .trace)) _ _ is) _ _ room (rw is all)
 
--- src/lib.rt:241:1
-same-length-2 : tie.Need-same-length-2
-same-length-2 c = search needs
-
--- src/lib.rt:241:1
 returns-4 : tie.Need-returns-4
-returns-4 c = ?
+unfolding printed
+returns-4 c =
+    let a = c .before .before .before .before .before .before .before .before .before .before .before .before .args in
+    let told = c .before .before .before .before .before .before .before .judged2 .given in
+    let whole = judged-sound (now (a .trace)) (told .0 .0) (sym (c .before .before .before .before .before .before .before .before .before .judge .ensures) ∙ ap headJudged (told .1)) in
+    let said = c .before .before .replay-sound in
+    written (now (a .trace)) (now (a .out)) _ (room-sound (now (a .trace)) (told .0 .0) whole) _ _ (c .before .before .before .before .if2 .left) (rw (whole .whole) (said .ensures))
 
 pub replay-into-spec : {M : Type 1} → statement M
 replay-into-spec =
     tie.close
     (tie.spec
-    judge-requires
-    enum-known-judged
+    (λ c κs. search needs)
+    (λ c. search needs)
     returns
-    fault-line-requires
+    (λ c κs. search needs)
     put-line-requires
-    enum-known-judged-2
-    cast-if2
-    add-if2
-    mul-if2
+    (λ c. search needs)
+    (λ c. search needs)
+    (λ c. search needs)
+    (λ c. search needs)
     returns-2
     replay-sound-requires
-    same-length
+    (λ c. search needs)
     returns-3
-    same-length-2
+    (λ c. search needs)
     returns-4)

@@ -1,55 +1,75 @@
+-- `runner::replay_sound` meets its contract. Assumes nothing.
+use mathlib.Core.Path.{ap, _∙_}
+use native.Mathlib.Omega.{arith}
+use denote.Ref.{now}
+use lib.ListN.{length-append}
 use borrow.Author.Needs.{needs}
+use Rattle.board.specs.Outcome.{Outcome}
+use Rattle.line.specs.Lines.{headLine, endLine}
+use Rattle.line.proofs.Back.{line-fits}
+use Rattle.text.proofs.Puts.{wrote, and-then, wrote-place, put-length}
+use Rattle.trace.specs.Trace.{operationsFrom}
+use Rattle.trace.specs.Answer.{operationsOf}
+use Rattle.runner.specs.declared.Form.the-variants.{Lines}
+use Rattle.runner.specs.Printed.{toldFrom}
+use Rattle.runner.proofs.Turns.{as-many-as}
+use Rattle.runner.proofs.Whole.{new-board, line-put, prints}
 use Rattle.runner.proofs.replay_sound.Statement.{statement}
 use Rattle.runner.proofs.replay_sound.Tie as tie
-use Rattle.runner.proofs.replay_sound.Reads as reads
-use Rattle.runner.proofs.replay_sound.Lts as lts
-use Rattle.board.proofs.Board.new.Reads as new-reads
-use Rattle.line.proofs.end_line.Reads as end-line-reads
-use Rattle.line.proofs.head_line.Reads as head-line-reads
-use Rattle.runner.proofs.put_line.Reads as put-line-reads
-use Rattle.runner.proofs.tell.Reads as tell-reads
 
--- src/lib.rt:205:9
-new-requires : tie.Need-new-requires
-new-requires c κs = search needs
-
--- src/lib.rt:207:9
-head-line-requires : tie.Need-head-line-requires
-head-line-requires c κs = search needs
-
--- src/lib.rt:208:9
 put-line-requires : tie.Need-put-line-requires
-put-line-requires c κs = ?
+put-line-requires c κs = line-fits _ _ (c .before .head-line .ensures .0)
 
--- src/lib.rt:209:5
 tell-requires : tie.Need-tell-requires
-tell-requires c κs = ?
+tell-requires c κs =
+    let start = c .before .before .before .before .before .before .before .before .before .before in
+    let out = now (start .args .out) in
+    let head = c .before .before .before .before .before .head-line in
+    let line = headLine (start .args .head .model) (start .args .head .divisor) in
+    let first = line-put _ line out 0 _ _ (head .ensures .0) (c .before .before .before .put-line .ensures) in
+    let same = put-length line out 0 _ _ first in
+    let place = wrote-place (wrote line out 0 _ _ first) (omega (arith, start .pre .1 .1, head .ensures .1)) in
+    (start .pre .0, (omega (arith, start .pre .1 .0), omega (arith, start .pre .1 .1, same, place, head .ensures .1)))
 
--- src/lib.rt:210:9
-end-line-requires : tie.Need-end-line-requires
-end-line-requires c κs = search needs
-
--- src/lib.rt:211:5
 put-line-requires-2 : tie.Need-put-line-requires-2
-put-line-requires-2 c κs = ?
+put-line-requires-2 c κs = line-fits _ _ (c .before .end-line .ensures .0)
 
--- src/lib.rt:197:1
+abbrev start : tie.After-slice-known4 → tie.Start
+start c = c .before .before .before .before .before .before .before .before .before .before .before .before .before .before .before .before .before .before
+
 same-length : tie.Need-same-length
-same-length c = search needs
+same-length c =
+    put-length _ _ _ _ _ (c .before .before .put-line2 .ensures) ∙ put-length _ _ _ _ _ (c .before .before .before .before .before .before .before .tell .ensures .0)
+    ∙ put-length _ _ _ _ _ (c .before .before .before .before .before .before .before .before .before .before .before .put-line .ensures)
 
--- src/lib.rt:197:1
 returns : tie.Need-returns
-returns c = ?
+returns c =
+    let a = start c .args in
+    let out = now (a .out) in
+    let operations = operationsOf (operationsFrom (now (a .trace)) 0 (a .head .operations)) in
+    let head = c .before .before .before .before .before .before .before .before .before .before .before .before .before .head-line in
+    let lines = c .before .before .before .before .before .before .before .tell in
+    let last = c .before .before .before .before .end-line in
+    let made = c .before .before .before .before .before .before .before .before .before .before .before .before .before .before .before .new in
+    let board = ap (λ (o : Outcome). o .board) (made .ensures) ∙ new-board (a .head .model) (a .head .divisor) in
+    let many = as-many-as (now (a .trace)) 0 (a .head .operations) (start c .pre .0) in
+    let head-text = headLine (a .head .model) (a .head .divisor) in
+    let lines-text = toldFrom Lines (made .result .board) 0 operations in
+    let end-text = endLine (a .head .operations) in
+    let first = wrote head-text out 0 _ _ (line-put _ head-text out 0 _ _ (head .ensures .0) (c .before .before .before .before .before .before .before .before .before .before .before .put-line .ensures)) in
+    let second = and-then first lines-text _ _ (lines .ensures .0) in
+    let third = and-then second end-text _ _ (line-put _ end-text _ _ _ _ (last .ensures .0) (c .before .before .put-line2 .ensures)) in
+    rw⁻¹ board (rw many (prints third (simp length-append (omega (arith, start c .pre .1 .1, head .ensures .1, lines .ensures .1, last .ensures .1)))))
 
 pub replay-sound-spec : {M : Type 1} → statement M
 replay-sound-spec =
     tie.close
     (tie.spec
-    new-requires
-    head-line-requires
+    (λ c κs. search needs)
+    (λ c κs. search needs)
     put-line-requires
     tell-requires
-    end-line-requires
+    (λ c κs. search needs)
     put-line-requires-2
     same-length
     returns)
