@@ -21,15 +21,29 @@ pub enum Passed {
     Refused(Refusal),
 }
 
-// The only place where one kind of ticks becomes the other.
+fn yielding(ticks: u32, remainder: u32) -> Conversion
+    ensures { λ r. ⌜ conversion r ≡ record { ticks = ticks; remainder = remainder } ⌝ }
+{
+    Conversion {
+        ticks: TimerTicks(ticks),
+        remainder: SystemTicks(remainder),
+    }
+}
+
+// The only place where one kind of ticks becomes the other. An instruction mostly makes no timer tick or one, and the processor's division takes longer than
+// all else of a call.
 fn convert(sum: SystemTicks, divisor: u32) -> Conversion
     requires { ⌜ 0 < divisor ⌝ }
     ensures { λ r. ⌜ conversion r ≡ converted (sum .0) divisor ⌝ }
 {
-    Conversion {
-        ticks: TimerTicks(sum.0 / divisor),
-        remainder: SystemTicks(sum.0 % divisor),
+    if sum.0 < divisor {
+        return yielding(0, sum.0);
     }
+    let rest = sum.0 - divisor;
+    if rest < divisor {
+        return yielding(1, rest);
+    }
+    yielding(sum.0 / divisor, sum.0 % divisor)
 }
 
 // System ticks since the warp, added to the remainder and divided. Refusals 3, 4 and 5.

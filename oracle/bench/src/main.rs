@@ -1,61 +1,111 @@
 //! Our timer and the original, the same operations through both in one process. docs/PERFORMANCE.md has the figures and what they mean.
+//!
+//!     bench [REPETITIONS]           every measurement; 61 repetitions where none are asked for
+//!     bench only NAME TURNS SIDE    one workload on one side (`ours` or `original`) some times over, for callgrind
 
+mod measure;
+mod ours;
 mod workloads;
 
-use std::time::Instant;
+use measure::{head, print_row, sides, Row};
+use original::pit::baseline;
+use std::hint::black_box;
 use workloads::Workload;
 
-extern "C" {
-    fn pit_answers(trace: *const u8, trace_len: usize, out: *mut u8, out_len: usize, answer: *mut u8, answer_len: usize) -> u32;
-}
-
+/// Room for every replay.
 const ROOM: usize = 196_704;
+const REPETITIONS: usize = 61;
 
-fn ours(trace: &[u8], out: &mut [u8]) -> Option<usize> {
-    let mut answer = [0; 16];
-    // SAFETY: each pointer goes with the length of the slice that it comes from, and the three are apart.
-    let status = unsafe { pit_answers(trace.as_ptr(), trace.len(), out.as_mut_ptr(), out.len(), answer.as_mut_ptr(), 16) };
-    (status == 0).then(|| u64::from_le_bytes(answer[..8].try_into().expect("eight bytes")) as usize)
-}
+type Whole = fn(&[u8], &mut [u8]) -> Option<usize>;
 
-fn median(mut times: Vec<f64>) -> f64 {
-    times.sort_by(f64::total_cmp);
-    times[times.len() / 2]
-}
-
-fn time(turns: usize, run: &mut dyn FnMut()) -> f64 {
-    let started = Instant::now();
-    for _ in 0..turns {
-        run();
-    }
-    started.elapsed().as_secs_f64() / turns as f64
-}
-
-fn measure(workload: &Workload, repetitions: usize) {
-    let (mut a, mut b) = (vec![0xA5; ROOM], vec![0xA5; ROOM]);
+/// A whole trace through both sides, whose bytes must be the same.
+fn whole(workload: &Workload, repetitions: usize, mine: Whole, theirs: Whole) -> Row {
     let trace = &workload.trace[..];
-    let same = (ours(trace, &mut a), original::pit::baseline::answers(trace, &mut b));
-    assert!(same.0 == same.1 && same.0.is_some() && a == b, "{}: the answers differ", workload.name);
-    let once = time(1, &mut || { std::hint::black_box(original::pit::baseline::answers(trace, &mut b)); });
-    let turns = ((0.002 / once) as usize).clamp(1, 100_000);
-    let (mut us, mut them) = (Vec::new(), Vec::new());
-    for repetition in 0..repetitions + 2 {
-        let x = time(turns, &mut || { std::hint::black_box(ours(std::hint::black_box(trace), &mut a)); });
-        let y = time(turns, &mut || { std::hint::black_box(original::pit::baseline::answers(std::hint::black_box(trace), &mut b)); });
-        if repetition >= 2 {
-            us.push(x);
-            them.push(y);
+    let (mut a, mut b) = (vec![0xA5; ROOM], vec![0xA5; ROOM]);
+    let lengths = (mine(trace, &mut a), theirs(trace, &mut b));
+    assert!(lengths.0.is_some() && lengths.0 == lengths.1 && a == b, "{}: the two sides differ", workload.name);
+    let mut one = || {
+        black_box(mine(black_box(trace), &mut a));
+    };
+    let mut other = || {
+        black_box(theirs(black_box(trace), &mut b));
+    };
+    sides(workload.name, workload.operations, repetitions, &mut one, &mut other)
+}
+
+/// The same operations one call at a time, our board in bytes between the calls.
+fn one_at_a_time(workload: &Workload, repetitions: usize) -> Row {
+    let trace = &workload.trace[..];
+    let operations: Vec<(u8, u16, u32)> = workload.each().collect();
+    let mut board = ours::Board::fresh(1, 12);
+    let mut timer = baseline::Baseline::fresh(trace);
+    let mut one = || {
+        for (code, target, number) in &operations {
+            black_box(board.operation(*code, *target, *number));
         }
+    };
+    let mut other = || {
+        for index in 0..workload.operations {
+            black_box(baseline::one(&mut timer, black_box(trace), index));
+        }
+    };
+    sides(workload.name, workload.operations, repetitions, &mut one, &mut other)
+}
+
+/// What a call of ours costs that only loads the board from its bytes, answers a number and stores it again.
+fn boundary(repetitions: usize) -> f64 {
+    let mut board = ours::Board::fresh(1, 12);
+    let mut one = || {
+        black_box(board.operation(black_box(21), 0, 0));
+    };
+    sides("", 1, repetitions, &mut one, &mut || ()).ours
+}
+
+fn everything(repetitions: usize) {
+    head("our runner owns the board: answers of a whole trace");
+    for workload in workloads::all() {
+        print_row(&whole(&workload, repetitions, ours::answers, baseline::answers));
     }
-    let each = 1e9 / workload.operations as f64;
-    let (us, them) = (median(us) * each, median(them) * each);
-    println!("{:<36} {us:>10.2} {them:>10.2} {:>7.2}", workload.name, us / them);
+    head("the same with lines printed");
+    for workload in workloads::growing() {
+        print_row(&whole(&workload, repetitions, ours::replay, baseline::replay));
+    }
+    head("growth: answers of a mixed trace");
+    for workload in workloads::growing() {
+        print_row(&whole(&workload, repetitions, ours::answers, baseline::answers));
+    }
+    let cost = boundary(repetitions);
+    head("one call at a time, our board in bytes");
+    println!("{:<40} {cost:>10.2}", "the boundary alone");
+    for workload in workloads::single() {
+        let row = one_at_a_time(&workload, repetitions);
+        print_row(&row);
+        let by_value = Row { name: "  of it the call by value", ours: (row.ours - cost).max(0.0), original: row.original };
+        print_row(&by_value);
+    }
+}
+
+fn only(name: &str, turns: usize, side: &str) -> Option<()> {
+    let workload = workloads::all().into_iter().find(|workload| workload.name == name)?;
+    let run: Whole = if side == "ours" { ours::answers } else { baseline::answers };
+    let mut out = vec![0; ROOM];
+    for _ in 0..turns {
+        black_box(run(black_box(&workload.trace), &mut out));
+    }
+    Some(())
 }
 
 fn main() {
-    let repetitions = std::env::args().nth(1).and_then(|n| n.parse().ok()).unwrap_or(41);
-    println!("{:<36} {:>10} {:>10} {:>7}", "ns an operation, medians", "ours", "original", "ratio");
-    for workload in workloads::all() {
-        measure(&workload, repetitions);
+    let words: Vec<String> = std::env::args().skip(1).collect();
+    let words: Vec<&str> = words.iter().map(String::as_str).collect();
+    let known = match words[..] {
+        [] => Some(everything(REPETITIONS)),
+        [n] => n.parse().ok().map(everything),
+        ["only", name, turns, side] => turns.parse().ok().and_then(|turns| only(name, turns, side)),
+        _ => None,
+    };
+    if known.is_none() {
+        eprintln!("bench [REPETITIONS], or bench only NAME TURNS ours|original");
+        std::process::exit(2);
     }
 }

@@ -7,6 +7,13 @@ pub struct Workload {
     pub operations: usize,
 }
 
+impl Workload {
+    /// Each operation's code, target and number.
+    pub fn each(&self) -> impl Iterator<Item = (u8, u16, u32)> + '_ {
+        self.trace[16..].chunks_exact(6).map(|six| (six[0], six[1].into(), u32::from_le_bytes([six[2], six[3], six[4], six[5]])))
+    }
+}
+
 type Six = [u8; 6];
 
 fn six(code: u8, target: u8, number: u32) -> Six {
@@ -50,7 +57,11 @@ fn mode_sets(number: usize) -> Vec<Six> {
 fn latched_reads(number: usize) -> Vec<Six> {
     each(number, |i| {
         let c = (i / 3 % 3) as u8;
-        if i % 3 == 0 { six(1, 0x43, u32::from(c) << 6) } else { six(2, 0x40 + c, 0) }
+        if i % 3 == 0 {
+            six(1, 0x43, u32::from(c) << 6)
+        } else {
+            six(2, 0x40 + c, 0)
+        }
     })
 }
 
@@ -105,8 +116,26 @@ pub fn all() -> Vec<Workload> {
         workload("65,536 counts a call, BCD", counts(36, 65_536, 0x31)),
         workload("catch-ups and runs, 24 ticks", times(4096, 24)),
         workload("catch-ups and runs, 12,000 ticks", times(4096, 12_000)),
+    ]
+}
+
+/// The mixed trace at four lengths.
+pub fn growing() -> Vec<Workload> {
+    vec![
         workload("mixed, 64 operations", mixed(64)),
         workload("mixed, 256 operations", mixed(256)),
         workload("mixed, 1,024 operations", mixed(1024)),
+        workload("mixed, 4,096 operations", mixed(4096)),
+    ]
+}
+
+/// What is measured one call at a time.
+pub fn single() -> Vec<Workload> {
+    vec![
+        workload("data writes", data_writes(256)),
+        workload("latched reads", latched_reads(256)),
+        workload("gates", gates(256)),
+        workload("single counts, binary", counts(256, 1, 0x30)),
+        workload("catch-ups and runs, 24 ticks", times(256, 24)),
     ]
 }

@@ -4,6 +4,7 @@
 
 pub mod bus;
 pub mod cpu_common;
+mod lines;
 pub mod panics;
 pub mod pit;
 pub mod updatable;

@@ -3,6 +3,7 @@
 //! It stands in the original's own module, so that the compiler can inline the original's functions into the loop. The trace is judged first, as ours is, then run.
 
 use super::*;
+use crate::lines::Lines;
 
 /// Bytes of an answer: docs/ENCODING.md, "The answers of a trace".
 const ANSWER: usize = 12;
@@ -54,13 +55,14 @@ fn judged(trace: &[u8]) -> Option<usize> {
     (whole && (0..number).all(|index| sound(op_at(trace, index)))).then_some(number)
 }
 
+/// The original's timer with its bus, as a host keeps them.
 pub struct Baseline {
     timer: Pit,
     bus: BusInterface,
 }
 
 impl Baseline {
-    fn fresh(trace: &[u8]) -> Self {
+    pub fn fresh(trace: &[u8]) -> Self {
         let ptype = if long(trace, 8) == 1 { PitType::Model8254 } else { PitType::Model8253 };
         let mut timer = Pit::new(ptype, 0.0, long(trace, 4), None);
         for (c, channel) in timer.channels.iter_mut().enumerate() {
@@ -176,6 +178,44 @@ fn answer(reply: &Reply, left: u32, bytes: &mut [u8]) {
     bytes[1..4].copy_from_slice(&events);
     bytes[4..8].copy_from_slice(&value.to_le_bytes());
     bytes[8..12].copy_from_slice(&left.to_le_bytes());
+}
+
+fn line(lines: &mut Lines, index: usize, reply: &Reply, left: u32) {
+    lines.decimal(index as u32);
+    match *reply {
+        Reply::Refused(number) => lines.text(b" refused ").decimal(number.into()),
+        Reply::Done => lines.text(b" ok"),
+        Reply::Out(c, level) => lines.text(b" out ").decimal(c.into()).text(b" ").decimal(level.into()),
+        Reply::Byte(byte) => lines.text(b" read ").hex(byte),
+        Reply::Ticks(ticks) => lines.text(b" ticks ").decimal(ticks).text(b" left ").decimal(left),
+    };
+    lines.text(b"\n");
+}
+
+/// What a replay of a sound trace prints, at the front of `out`, and how many bytes that is.
+pub fn replay(trace: &[u8], out: &mut [u8]) -> Option<usize> {
+    let number = judged(trace)?;
+    let mut lines = Lines::new(out.get_mut(..48 * (number + 2))?);
+    let mut board = Baseline::fresh(trace);
+    let model: &[u8] = if long(trace, 8) == 1 { b"8254" } else { b"8253" };
+    lines.text(b"pit ").text(model).text(b" divisor ").decimal(long(trace, 4)).text(b"\n");
+    for index in 0..number {
+        let reply = board.make(op_at(trace, index));
+        line(&mut lines, index, &reply, board.timer.sys_tick_accumulator);
+    }
+    lines.text(b"end ").decimal(number as u32).text(b"\n");
+    Some(lines.len())
+}
+
+/// One operation of a trace on a board that the caller keeps: what the bench measures one at a time. Answers the value, so that nothing is left out.
+pub fn one(board: &mut Baseline, trace: &[u8], index: usize) -> u32 {
+    match board.make(op_at(trace, index)) {
+        Reply::Refused(number) => number.into(),
+        Reply::Done => 0,
+        Reply::Out(c, level) => u32::from(c) + u32::from(level),
+        Reply::Byte(byte) => byte.into(),
+        Reply::Ticks(ticks) => ticks,
+    }
 }
 
 /// The answers of a sound trace at the front of `out`, and how many bytes they are.

@@ -1,0 +1,57 @@
+//! Times of two sides in turn, many repetitions, medians.
+
+use std::time::Instant;
+
+/// How long one repetition of a side takes at least, in seconds.
+const LEAST: f64 = 0.002;
+/// Repetitions that come first and are not counted.
+const WARM_UP: usize = 3;
+
+/// Nanoseconds an operation on both sides.
+pub struct Row {
+    pub name: &'static str,
+    pub ours: f64,
+    pub original: f64,
+}
+
+fn median(mut times: Vec<f64>) -> f64 {
+    times.sort_by(f64::total_cmp);
+    times[times.len() / 2]
+}
+
+fn time(turns: usize, run: &mut dyn FnMut()) -> f64 {
+    let started = Instant::now();
+    for _ in 0..turns {
+        run();
+    }
+    started.elapsed().as_secs_f64() / turns as f64
+}
+
+fn turns(run: &mut dyn FnMut()) -> usize {
+    let once = time(1, run).max(1e-9);
+    let enough = time(((LEAST / once) as usize).clamp(1, 1_000_000), run).max(1e-10);
+    ((LEAST / enough) as usize).clamp(1, 10_000_000)
+}
+
+/// Both sides in turn, so that what else the machine does falls on both.
+pub fn sides(name: &'static str, operations: usize, repetitions: usize, one: &mut dyn FnMut(), other: &mut dyn FnMut()) -> Row {
+    let (ones, others) = (turns(one), turns(other));
+    let (mut ours, mut original) = (Vec::new(), Vec::new());
+    for repetition in 0..WARM_UP + repetitions.max(1) {
+        let (a, b) = (time(ones, one), time(others, other));
+        if repetition >= WARM_UP {
+            ours.push(a);
+            original.push(b);
+        }
+    }
+    let each = 1e9 / operations as f64;
+    Row { name, ours: median(ours) * each, original: median(original) * each }
+}
+
+pub fn head(what: &str) {
+    println!("\n{what}\n{:<40} {:>10} {:>10} {:>7}", "nanoseconds an operation, medians", "ours", "original", "ratio");
+}
+
+pub fn print_row(row: &Row) {
+    println!("{:<40} {:>10.2} {:>10.2} {:>7.2}", row.name, row.ours, row.original, row.ours / row.original);
+}
