@@ -106,10 +106,11 @@ pub struct Pins {
 
 pub struct Channel {
     pub control: ControlWord,
+    // It stands behind the control word so that what lies between is copied in whole words: docs/PERFORMANCE.md.
+    pub dirty: bool,
     pub reloading: Reloading,
     pub load: Load,
     pub counter: Counter,
     pub latch: Latch,
     pub pins: Pins,
-    pub dirty: bool,
 }

@@ -2,3 +2,4 @@
 pub mod Weight
 pub mod Repeated
 pub mod Held
+pub mod Many

@@ -1,9 +1,11 @@
 -- Document 01, "Counting, latch and reading": one count of a channel.
 use Prim.Native.Nat.{ℕ}
-use mathlib.Core.Bool.{true}
+use mathlib.Core.Bool.{Bool, true, cond}
+use lib.Dec.{eqb}
 use Rattle.channel.specs.declared.Channel.{Channel}
+use Rattle.channel.specs.declared.Latch.{Latch}
 use Rattle.channel.specs.Record.{withCounter}
-use Rattle.channel.specs.Shared.{putElement}
+use Rattle.channel.specs.Shared.{followed, putElement}
 use Rattle.count.specs.Step.{stepIn}
 
 -- the counting element after one count
@@ -24,3 +26,10 @@ withTicked c =
 -- "A count takes one from the counting element"; "The output latch follows unless latched; `ticked` becomes true."
 unfoldable pub count : Channel → Channel
 count c = withTicked (putElement c (nextElement c))
+
+-- the output latch and `ticked` after a number of counts, the last of which leaves e in the counting element; as they were where no count is made
+abbrev pub followedBy : ℕ → Latch → ℕ → Latch
+followedBy number l e = cond (eqb number 0) l (followed l e)
+
+abbrev pub tickedBy : ℕ → Bool → Bool
+tickedBy number ticked = cond (eqb number 0) ticked true

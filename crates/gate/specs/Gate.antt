@@ -56,3 +56,19 @@ withGate c level = withPins c (record { gate = level; output = c .pins .output }
 -- "The gate level is always stored."
 unfoldable pub setGate : Channel → Bool → Channel
 setGate c level = withGate (afterEdge c level) level
+
+-- the same by parts: whether the edge from a level to a level enters a state, in a mode, and which; and whether it makes the output high
+abbrev pub enters : ChannelMode → Bool → Bool → Bool
+enters m false false = false
+enters m false true = loadsOnRise m
+enters m true false = stopsOnFall m
+enters m true true = false
+
+abbrev pub enteredAt : Bool → ChannelState
+enteredAt true = WaitingForLoadCycle
+enteredAt false = WaitingForGate
+
+abbrev pub raises : ChannelMode → Bool → Bool → Bool
+raises m false level = false
+raises m true false = highOnFall m
+raises m true true = false

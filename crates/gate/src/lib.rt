@@ -2,8 +2,9 @@
 use channel::Channel;
 use channel::ChannelMode;
 use channel::ChannelState;
+use channel::Counter;
 ghost use mathlib.Core.Path.{_≡_};
-ghost use Rattle.gate.specs.Gate.{loadsOnRise, stopsOnFall, highOnFall, waitsForReload, rising, stopping, raising, falling, edge, afterEdge, setGate};
+ghost use Rattle.gate.specs.Gate.{loadsOnRise, stopsOnFall, highOnFall, waitsForReload, afterEdge, setGate, enters, enteredAt, raises};
 
 fn loads_on_rise(mode: ChannelMode) -> bool
     ensures { λ r. ⌜ r ≡ loadsOnRise mode ⌝ }
@@ -57,79 +58,95 @@ fn waits_for_reload(state: ChannelState) -> bool
     }
 }
 
-fn rise(c: Channel) -> Channel
-    ensures { λ r. ⌜ r ≡ rising c ⌝ }
+// Whether the edge from the gate's level to the new one enters a state.
+fn enters(mode: ChannelMode, was: bool, level: bool) -> bool
+    ensures { λ r. ⌜ r ≡ enters mode was level ⌝ }
 {
-    let w = c.control;
-    let mode = w.mode;
-    if loads_on_rise(mode) {
-        return c.change_channel_state(ChannelState::WaitingForLoadCycle);
-    }
-    c
-}
-
-fn stop(c: Channel) -> Channel
-    ensures { λ r. ⌜ r ≡ stopping c ⌝ }
-{
-    let w = c.control;
-    let mode = w.mode;
-    if stops_on_fall(mode) {
-        return c.change_channel_state(ChannelState::WaitingForGate);
-    }
-    c
-}
-
-fn raise(c: Channel) -> Channel
-    ensures { λ r. ⌜ r ≡ raising c ⌝ }
-{
-    let w = c.control;
-    let mode = w.mode;
-    if high_on_fall(mode) {
-        return c.change_output_state(true);
-    }
-    c
-}
-
-fn fall(c: Channel) -> Channel
-    ensures { λ r. ⌜ r ≡ falling c ⌝ }
-{
-    let stopped = stop(c);
-    raise(stopped)
-}
-
-// What the edge between the gate's level and the new one does, the level itself aside.
-fn edge_at(c: Channel, level: bool) -> Channel
-    ensures { λ r. ⌜ r ≡ edge (c .pins .gate) level c ⌝ }
-{
-    let p = c.pins;
-    let was = p.gate;
     if was {
         if level {
-            return c;
+            return false;
         }
-        return fall(c);
+        return stops_on_fall(mode);
     }
     if level {
-        return rise(c);
+        return loads_on_rise(mode);
     }
-    c
+    false
 }
 
-fn after_edge(c: Channel, level: bool) -> Channel
-    ensures { λ r. ⌜ r ≡ afterEdge c level ⌝ }
+// The state that a rise or a fall enters, where it enters one.
+fn entered_at(level: bool) -> ChannelState
+    ensures { λ r. ⌜ r ≡ enteredAt level ⌝ }
 {
+    if level {
+        ChannelState::WaitingForLoadCycle
+    } else {
+        ChannelState::WaitingForGate
+    }
+}
+
+// Whether it makes the output high.
+fn raises(mode: ChannelMode, was: bool, level: bool) -> bool
+    ensures { λ r. ⌜ r ≡ raises mode was level ⌝ }
+{
+    if was {
+        if level {
+            return false;
+        }
+        return high_on_fall(mode);
+    }
+    false
+}
+
+fn counter_after(c: Channel, level: bool) -> Counter
+    ensures { λ r. ⌜ r ≡ afterEdge c level .counter ⌝ }
+{
+    let w = c.control;
+    let mode = w.mode;
+    let p = c.pins;
     let k = c.counter;
     let state = k.channel_state;
     if waits_for_reload(state) {
-        return c;
+        return k;
     }
-    edge_at(c, level)
+    if enters(mode, p.gate, level) {
+        let channel_state = entered_at(level);
+        return Counter {
+            channel_state,
+            cycles_in_state: 0,
+            counting_element: k.counting_element,
+            ticked: k.ticked,
+        };
+    }
+    k
 }
 
+fn output_after(c: Channel, level: bool) -> bool
+    ensures { λ r. ⌜ r ≡ afterEdge c level .pins .output ⌝ }
+{
+    let w = c.control;
+    let mode = w.mode;
+    let p = c.pins;
+    let k = c.counter;
+    let state = k.channel_state;
+    if waits_for_reload(state) {
+        return p.output;
+    }
+    if raises(mode, p.gate, level) {
+        return true;
+    }
+    p.output
+}
+
+// What an edge can change is found first, and the record is put together once: docs/PERFORMANCE.md.
 pub fn set_gate(c: Channel, level: bool) -> Channel
     ensures { λ r. ⌜ r ≡ setGate c level ⌝ }
 {
-    let mut next = after_edge(c, level);
+    let counter = counter_after(c, level);
+    let output = output_after(c, level);
+    let mut next = c;
+    next.counter = counter;
+    next.pins.output = output;
     next.pins.gate = level;
     next
 }

@@ -1,20 +1,19 @@
 -- A data write keeps the count and the latch, complete or not. Assumes nothing.
-use Prim.Native.Nat.{ℕ, _+_, _*_, _%_}
+use Prim.Native.Nat.{ℕ}
 use mathlib.Core.Path.{refl}
 use mathlib.Core.Bool.{Bool, false}
 use Rattle.channel.specs.declared.Channel.{Channel}
 use Rattle.channel.specs.declared.ChannelState.the-variants.{WaitingForReload}
 use Rattle.channel.specs.declared.LoadState.{LoadState}
-use Rattle.channel.specs.declared.LoadState.the-variants.{WaitingForLsb, WaitingForMsb}
+use Rattle.channel.specs.declared.LoadState.the-variants.{WaitingForMsb}
 use Rattle.channel.specs.declared.LoadType.{LoadType}
 use Rattle.channel.specs.declared.LoadType.the-variants.{InitialLoad, SubsequentLoad}
 use Rattle.channel.specs.declared.RwMode.{RwMode}
-use Rattle.channel.specs.declared.RwMode.the-variants.{Lsb, Msb, LsbMsb}
 use Rattle.channel.specs.Shared.{changeOutputState}
 use Rattle.channel.specs.Kept.{Kept}
 use Rattle.channel.proofs.Keeps.{kept-same, kept-then, kept-pick, kept-state, kept-output}
 use Rattle.load.specs.Finalize.{waitingState, firstState, loadsAgain, completeLoad, enterAfter, finalizeLoad}
-use Rattle.load.specs.Write.{putRegister, stopsOnLowByte, stopped, begun, writeAt, writeByte}
+use Rattle.load.specs.Write.{putRegister, stopsOnLowByte, stopped, begun, beginsWord, wordIn, stateIn, writeAt, writeByte}
 
 register-keeps : (c : Channel) (value : ℕ) (s : LoadState) → Kept c (putRegister c value s)
 unfolding putRegister
@@ -42,12 +41,10 @@ whole-keeps : (c : Channel) (value : ℕ) (s : LoadState) (defer : Bool) → Kep
 whole-keeps c value s defer = kept-then (register-keeps c value s) (finalize-keeps (putRegister c value s) defer)
 
 write-at-keeps : (a : RwMode) (s : LoadState) (c : Channel) (byte : ℕ) (defer : Bool) → Kept c (writeAt a s c byte defer)
-write-at-keeps Lsb s c byte defer = whole-keeps c byte (c .load .«load_state») defer
-write-at-keeps Msb s c byte defer = whole-keeps c (byte * 256) (c .load .«load_state») defer
-write-at-keeps LsbMsb WaitingForLsb c byte defer =
-    kept-then (register-keeps c byte WaitingForMsb) (begun-keeps (putRegister c byte WaitingForMsb))
-write-at-keeps LsbMsb WaitingForMsb c byte defer =
-    whole-keeps c (c .load .«count_register» % 256 + byte * 256) WaitingForLsb defer
+write-at-keeps a s c byte defer =
+    kept-pick (beginsWord a s)
+    (kept-then (register-keeps c byte WaitingForMsb) (begun-keeps (putRegister c byte WaitingForMsb)))
+    (whole-keeps c (wordIn a (c .load .«count_register») byte) (stateIn a s) defer)
 
 pub write-keeps : (c : Channel) (byte : ℕ) (defer : Bool) → Kept c (writeByte c byte defer)
 unfolding writeByte

@@ -1,3 +1,4 @@
 pub mod Keeps
 pub mod Stays
 pub mod Moved
+pub mod Parts

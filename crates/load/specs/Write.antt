@@ -40,13 +40,30 @@ begun c = cond (stopsOnLowByte (c .control .mode)) (stopped c) c
 abbrev pub writeLow : Channel → ℕ → Channel
 writeLow c byte = begun (putRegister c byte WaitingForMsb)
 
--- "Low or high access: one byte completes the load, the other half 0. Both: low, then high"
+-- "Low or high access: one byte completes the load ... Both: low, then high": whether the byte is the first of two
+abbrev pub beginsWord : RwMode → LoadState → Bool
+beginsWord Lsb s = false
+beginsWord Msb s = false
+beginsWord LsbMsb WaitingForLsb = true
+beginsWord LsbMsb WaitingForMsb = false
+
+-- "one byte completes the load, the other half 0. Both: low, then high": the count register that a byte completes
+abbrev pub wordIn : RwMode → ℕ → ℕ → ℕ
+wordIn Lsb register byte = byte
+wordIn Msb register byte = byte * 256
+wordIn LsbMsb register byte = register % 256 + byte * 256
+
+-- the byte that is waited for after a complete load; where one byte completes it, nothing changes
+abbrev pub stateIn : RwMode → LoadState → LoadState
+stateIn Lsb s = s
+stateIn Msb s = s
+stateIn LsbMsb s = WaitingForLsb
+
+-- the first of two bytes, or one that completes the load
 abbrev pub writeAt : RwMode → LoadState → Channel → ℕ → Bool → Channel
-writeAt Lsb s c byte defer = finalizeLoad (putRegister c byte (c .load .«load_state»)) defer
-writeAt Msb s c byte defer = finalizeLoad (putRegister c (byte * 256) (c .load .«load_state»)) defer
-writeAt LsbMsb WaitingForLsb c byte defer = writeLow c byte
-writeAt LsbMsb WaitingForMsb c byte defer =
-    finalizeLoad (putRegister c (c .load .«count_register» % 256 + byte * 256) WaitingForLsb) defer
+writeAt a s c byte defer =
+    cond (beginsWord a s) (writeLow c byte)
+    (finalizeLoad (putRegister c (wordIn a (c .load .«count_register») byte) (stateIn a s)) defer)
 
 unfoldable pub writeByte : Channel → ℕ → Bool → Channel
 writeByte c byte defer = writeAt (c .control .«rw_mode») (c .load .«load_state») c byte defer

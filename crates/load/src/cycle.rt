@@ -1,9 +1,13 @@
 // The load cycle: it stands for the tick that loads, until the whole tick exists.
 use channel::Channel;
 use channel::ChannelState;
+use channel::Counter;
+use channel::Latch;
 use channel::ReloadFlag;
+ghost use mathlib.Core.Bool.{true, cond};
 ghost use mathlib.Core.Path.{_≡_};
-ghost use Rattle.load.specs.Cycle.{loadValue, loadCycle};
+ghost use Rattle.channel.specs.Shared.{followed};
+ghost use Rattle.load.specs.Cycle.{loadValue, loadCycle, loads, newlyIn, counterAfter};
 
 // The value that a load moves to the counting element.
 pub fn load_value(c: Channel) -> u16
@@ -14,20 +18,84 @@ pub fn load_value(c: Channel) -> u16
     l.reload_value & rule.load_mask
 }
 
+// Whether the cycle of a state loads.
+fn loads(state: ChannelState) -> bool
+    ensures { λ r. ⌜ r ≡ loads state ⌝ }
+{
+    match state {
+        ChannelState::WaitingForReload => false,
+        ChannelState::WaitingForGate => false,
+        ChannelState::DeferLoadCycle => false,
+        ChannelState::WaitingForLoadCycle => true,
+        ChannelState::WaitingForLoadTrigger => false,
+        ChannelState::Counting(_) => false,
+    }
+}
+
+// The counter's group in a state just entered.
+fn enter(k: Counter, channel_state: ChannelState, element: u16) -> Counter
+    ensures { λ r. ⌜ r ≡ newlyIn «channel_state» element k ⌝ }
+{
+    Counter {
+        channel_state,
+        cycles_in_state: 0,
+        counting_element: element,
+        ticked: k.ticked,
+    }
+}
+
+// What the cycle leaves of the counter's group, where a load would move this value.
+fn counter_after(k: Counter, value: u16) -> Counter
+    ensures { λ r. ⌜ r ≡ counterAfter (k .«channel_state») k value ⌝ }
+{
+    let state = k.channel_state;
+    match state {
+        ChannelState::WaitingForReload => k,
+        ChannelState::WaitingForGate => k,
+        ChannelState::DeferLoadCycle => {
+            enter(k, ChannelState::WaitingForLoadCycle, k.counting_element)
+        }
+        ChannelState::WaitingForLoadCycle => {
+            enter(k, ChannelState::Counting(ReloadFlag::Normal), value)
+        }
+        ChannelState::WaitingForLoadTrigger => k,
+        ChannelState::Counting(_) => k,
+    }
+}
+
+fn latch_after(loaded: bool, l: Latch, value: u16) -> Latch
+    ensures { λ r. ⌜ r ≡ cond loaded (followed l value) l ⌝ }
+{
+    if loaded {
+        return l.follow(value);
+    }
+    l
+}
+
+fn marked(loaded: bool, dirty: bool) -> bool
+    ensures { λ r. ⌜ r ≡ cond loaded true dirty ⌝ }
+{
+    if loaded {
+        return true;
+    }
+    dirty
+}
+
+// What the cycle can change is found first, and the record is put together once: docs/PERFORMANCE.md.
 pub fn load_cycle(c: Channel) -> Channel
     ensures { λ r. ⌜ r ≡ loadCycle c ⌝ }
 {
     let k = c.counter;
+    let l = c.latch;
     let state = k.channel_state;
-    match state {
-        ChannelState::WaitingForReload => c,
-        ChannelState::WaitingForGate => c,
-        ChannelState::DeferLoadCycle => c.change_channel_state(ChannelState::WaitingForLoadCycle),
-        ChannelState::WaitingForLoadCycle => {
-            let loaded = c.put_element(load_value(c));
-            loaded.change_channel_state(ChannelState::Counting(ReloadFlag::Normal))
-        }
-        ChannelState::WaitingForLoadTrigger => c,
-        ChannelState::Counting(_) => c,
-    }
+    let value = load_value(c);
+    let loaded = loads(state);
+    let counter = counter_after(k, value);
+    let latch = latch_after(loaded, l, value);
+    let dirty = marked(loaded, c.dirty);
+    let mut next = c;
+    next.counter = counter;
+    next.latch = latch;
+    next.dirty = dirty;
+    next
 }

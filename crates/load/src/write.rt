@@ -7,7 +7,7 @@ use channel::Load;
 use channel::LoadState;
 use channel::RwMode;
 ghost use mathlib.Core.Path.{_≡_};
-ghost use Rattle.load.specs.Write.{stopsOnLowByte, putRegister, stopped, writeLow, writeByte};
+ghost use Rattle.load.specs.Write.{stopsOnLowByte, putRegister, stopped, writeLow, beginsWord, wordIn, stateIn, writeByte};
 
 // The mode that the first byte of a word stops.
 fn stops_on_low_byte(mode: ChannelMode) -> bool
@@ -67,6 +67,44 @@ fn write_low(c: Channel, byte: u8) -> Channel
     next
 }
 
+// Whether the byte is the first of two.
+fn begins_word(rw_mode: RwMode, load_state: LoadState) -> bool
+    ensures { λ r. ⌜ r ≡ beginsWord «rw_mode» «load_state» ⌝ }
+{
+    match rw_mode {
+        RwMode::Lsb => false,
+        RwMode::Msb => false,
+        RwMode::LsbMsb => match load_state {
+            LoadState::WaitingForLsb => true,
+            LoadState::WaitingForMsb => false,
+        },
+    }
+}
+
+// The count register that a byte completes.
+fn word_in(rw_mode: RwMode, register: u16, byte: u8) -> u16
+    ensures { λ r. ⌜ r ≡ wordIn «rw_mode» register byte ⌝ }
+{
+    let value = wide(byte);
+    match rw_mode {
+        RwMode::Lsb => value,
+        RwMode::Msb => value * 256,
+        RwMode::LsbMsb => register % 256 + value * 256,
+    }
+}
+
+// The byte that is waited for after a complete load.
+fn state_in(rw_mode: RwMode, load_state: LoadState) -> LoadState
+    ensures { λ r. ⌜ r ≡ stateIn «rw_mode» «load_state» ⌝ }
+{
+    match rw_mode {
+        RwMode::Lsb => load_state,
+        RwMode::Msb => load_state,
+        RwMode::LsbMsb => LoadState::WaitingForLsb,
+    }
+}
+
+// One call of finalize_load, so that the whole is small enough to be inlined: docs/PERFORMANCE.md.
 pub fn write_byte(c: Channel, byte: u8, defer_reload: bool) -> Channel
     ensures { λ r. ⌜ r ≡ writeByte c byte «defer_reload» ⌝ }
 {
@@ -74,19 +112,10 @@ pub fn write_byte(c: Channel, byte: u8, defer_reload: bool) -> Channel
     let rw_mode = w.rw_mode;
     let l = c.load;
     let load_state = l.load_state;
-    let value = wide(byte);
-    match rw_mode {
-        RwMode::Lsb => finalize_load(put_register(c, value, load_state), defer_reload),
-        RwMode::Msb => finalize_load(put_register(c, value * 256, load_state), defer_reload),
-        RwMode::LsbMsb => match load_state {
-            LoadState::WaitingForLsb => write_low(c, byte),
-            LoadState::WaitingForMsb => {
-                let word = l.count_register % 256 + value * 256;
-                finalize_load(
-                    put_register(c, word, LoadState::WaitingForLsb),
-                    defer_reload,
-                )
-            }
-        },
+    if begins_word(rw_mode, load_state) {
+        return write_low(c, byte);
     }
+    let word = word_in(rw_mode, l.count_register, byte);
+    let next_state = state_in(rw_mode, load_state);
+    finalize_load(put_register(c, word, next_state), defer_reload)
 }

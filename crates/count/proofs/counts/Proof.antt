@@ -1,37 +1,11 @@
--- `count::counts` meets its contract. The invariant: the channel is the first one, counted as often as `k` says. Assumes nothing.
-use Prim.Native.Nat.{_≤_, _-_}
-use mathlib.Core.Path.{_≡_, refl}
-use native.Mathlib.Numerals.{add-one}
-use native.Mathlib.Omega.{arith}
+-- `count::counts` meets its contract: what it puts together is that many single counts, by `counted-at-once`. Assumes nothing.
 use borrow.Author.Needs.{needs}
-use Rattle.numbers.specs.Times.{times}
-use Rattle.count.specs.Count.{count}
+use Rattle.count.proofs.Many.{counted-at-once}
 use Rattle.count.proofs.counts.Statement.{statement}
 use Rattle.count.proofs.counts.Tie as tie
 
-abbrev Inv-loop : tie.InvT-loop
-Inv-loop number c₀ k₀ c k = (k ≤ number) × (c ≡ times k count c₀)
-
-abbrev μ-loop : tie.MeasureT-loop
-μ-loop number c₀ k₀ c k = number - k
-
-loop-again : tie.Need-loop-again Inv-loop μ-loop
-loop-again c = (omega arith, simp (c .count .ensures, c .before .before .loop .inv .1, add-one))
-
-returns : tie.Need-returns Inv-loop μ-loop
-returns c =
-    let e : c .before .loop .k ≡ c .before .before .args .number = omega arith in
-    simp (c .before .loop .inv .1, e)
+returns : tie.Need-returns
+returns c = rw counted-at-once (simp (c .before .before .ticked-by .ensures, c .before .before .before .followed-by .ensures, c .before .before .before .before .steps-in .ensures))
 
 pub counts-spec : {M : Type 1} → statement M
-counts-spec =
-    tie.close
-    (tie.spec
-    Inv-loop
-    μ-loop
-    (λ c. (omega arith, refl))
-    (λ c κs. search needs)
-    (λ c. search needs)
-    (λ c. omega arith)
-    loop-again
-    returns)
+counts-spec = tie.close (tie.spec (λ c κs. search needs) (λ c κs. search needs) (λ c κs. search needs) returns)

@@ -1,0 +1,29 @@
+-- A load cycle by its parts: the counter's group, the latch and dirty. The other groups are as they were. Assumes nothing.
+use mathlib.Core.Path.{_≡_, refl}
+use mathlib.Core.Bool.{true, cond}
+use Rattle.channel.specs.declared.Channel.{Channel}
+use Rattle.channel.specs.declared.ChannelState.{ChannelState}
+use Rattle.channel.specs.declared.ChannelState.the-variants.{WaitingForReload, WaitingForGate, DeferLoadCycle, WaitingForLoadCycle, WaitingForLoadTrigger, Counting}
+use Rattle.channel.specs.Record.{withCounter, withLatch, withDirty}
+use Rattle.channel.specs.Shared.{followed, changeChannelState, putElement}
+use Rattle.load.specs.Cycle.{loadValue, cycleIn, loadCycle, loads, counterAfter}
+
+abbrev cycled : ChannelState → Channel → Channel
+cycled s c =
+    withDirty
+    (withLatch (withCounter c (counterAfter s (c .counter) (loadValue c)))
+    (cond (loads s) (followed (c .latch) (loadValue c)) (c .latch)))
+    (cond (loads s) true (c .dirty))
+
+cycle-in-parts : (s : ChannelState) (c : Channel) → c .counter .«channel_state» ≡ s → cycleIn s c ≡ cycled s c
+unfolding changeChannelState putElement
+cycle-in-parts WaitingForReload c e = refl
+cycle-in-parts WaitingForGate c e = refl
+cycle-in-parts DeferLoadCycle c e = simp e
+cycle-in-parts WaitingForLoadCycle c e = simp e
+cycle-in-parts WaitingForLoadTrigger c e = refl
+cycle-in-parts (Counting f) c e = refl
+
+pub cycle-by-parts : (c : Channel) → loadCycle c ≡ cycled (c .counter .«channel_state») c
+unfolding loadCycle
+cycle-by-parts c = cycle-in-parts (c .counter .«channel_state») c refl
