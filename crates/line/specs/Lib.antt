@@ -1,2 +1,3 @@
 pub mod Line
 pub mod Lines
+pub mod Said

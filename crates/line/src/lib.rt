@@ -1,9 +1,11 @@
 // The lines of a replay, by value: document 01, "Recorded traces".
 pub mod operation;
+pub mod sentence;
 
 use channel::PitType;
 pub use operation::operation_line;
 use refusal::Refusal;
+pub use sentence::line_of;
 ghost use mathlib.Core.Path.{_≡_};
 ghost use Prim.Native.Nat.{_≤_};
 ghost use lib.ListN.{length};

@@ -7,6 +7,7 @@ mod answering;
 use board::Answer;
 use board::Board;
 use line::Line;
+use line::sentence::Sentence;
 use refusal::Refusal;
 use time::SystemTicks;
 use trace::head::Head;
@@ -56,7 +57,13 @@ fn say(
 {
     match form {
         Form::Lines => {
-            let line = line::operation_line(index, answer, events, left);
+            let line = line::line_of(Sentence::Operation(
+                index,
+                answer,
+                events[0],
+                events[1],
+                left,
+            ));
             put_line(out, place, line)
         }
         Form::Answers => {
@@ -204,10 +211,10 @@ fn replay_sound(trace: &[u8], head: Head, out: &mut [u8]) -> usize
     let number = head.operations;
     let made = Board::new(model, head.divisor);
     let board = made.board;
-    let first = line::head_line(model, head.divisor);
+    let first = line::line_of(Sentence::Head(model, head.divisor));
     let mut place = put_line(out, 0, first);
     place = tell(Form::Lines, trace, board, 0, number, out, place);
-    let last = line::end_line(number);
+    let last = line::line_of(Sentence::End(number));
     put_line(out, place, last)
 }
 
@@ -221,7 +228,7 @@ pub fn replay(trace: &[u8], out: &mut [u8; 196704]) -> usize
     match judged {
         Judged::Refused(fault) => {
             let refusal = fault.refusal;
-            let line = line::fault_line(refusal, fault.place);
+            let line = line::line_of(Sentence::Fault(refusal, fault.place));
             put_line(out, 0, line)
         }
         Judged::Sound(head) => replay_sound(trace, head, out),
@@ -248,7 +255,7 @@ pub fn replay_into(trace: &[u8], out: &mut [u8]) -> Replayed
                 return Replayed::Short;
             }
             let refusal = fault.refusal;
-            let line = line::fault_line(refusal, fault.place);
+            let line = line::line_of(Sentence::Fault(refusal, fault.place));
             Replayed::Written(put_line(out, 0, line))
         }
         Judged::Sound(head) => {

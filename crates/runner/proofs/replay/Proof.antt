@@ -15,7 +15,7 @@ use Rattle.runner.proofs.replay.Statement.{statement}
 use Rattle.runner.proofs.replay.Tie as tie
 
 put-line-requires : tie.Need-put-line-requires
-put-line-requires c κs = line-fits _ _ (c .before .fault-line .ensures .0)
+put-line-requires c κs = line-fits _ _ (c .before .line-of .ensures .0)
 
 replay-sound-requires : tie.Need-replay-sound-requires
 replay-sound-requires c κs =
@@ -29,7 +29,7 @@ returns c =
     let a = c .before .before .before .before .before .before .before .before .args in
     let told = c .before .before .before .before .judged .given in
     let fault = told .0 .0 in
-    let line = c .before .before .fault-line in
+    let line = c .before .before .line-of in
     let text = faultLine (refusalNumber (fault .refusal)) (fault .place) in
     let all = prints (wrote text (now (a .out)) 0 _ _ (line-put _ text _ _ _ _ (line .ensures .0) (c .put-line .ensures))) (omega (arith, line .ensures .1)) in (
       rw (judged-refused (now (a .trace)) (refusalNumber (fault .refusal)) (fault .place) (sym (c .before .before .before .before .before .before .judge .ensures) ∙ ap headJudged (told .1)))

@@ -23,7 +23,7 @@ returns c =
     too-short (now (a .trace)) (now (a .out)) _ (room-refused (now (a .trace)) _ _ is) (c .if1 .taken)
 
 put-line-requires : tie.Need-put-line-requires
-put-line-requires c κs = line-fits _ _ (c .before .fault-line .ensures .0)
+put-line-requires c κs = line-fits _ _ (c .before .line-of .ensures .0)
 
 returns-2 : tie.Need-returns-2
 returns-2 c =
@@ -45,7 +45,7 @@ returns-3 c =
     let fault = c .before .before .before .before .before .before .before .judged .given in
     let number = refusalNumber (fault .0 .0 .refusal) in
     let is = judged-refused (now (a .trace)) number (fault .0 .0 .place) (sym (c .before .before .before .before .before .before .before .before .before .judge .ensures) ∙ ap headJudged (fault .1)) in
-    let line = c .before .before .before .before .fault-line in
+    let line = c .before .before .before .before .line-of in
     let text = faultLine number (fault .0 .0 .place) in
     let room = c .before .before .before .before .before .if1 .left in
     let all = prints (wrote text (now (a .out)) 0 _ _ (line-put _ text _ _ _ _ (line .ensures .0) (c .before .before .put-line .ensures))) (omega (arith, line .ensures .1, room)) in

@@ -18,13 +18,13 @@ use Rattle.runner.proofs.replay_sound.Statement.{statement}
 use Rattle.runner.proofs.replay_sound.Tie as tie
 
 put-line-requires : tie.Need-put-line-requires
-put-line-requires c κs = line-fits _ _ (c .before .head-line .ensures .0)
+put-line-requires c κs = line-fits _ _ (c .before .line-of .ensures .0)
 
 tell-requires : tie.Need-tell-requires
 tell-requires c κs =
     let start = c .before .before .before .before .before .before .before .before .before .before in
     let out = now (start .args .out) in
-    let head = c .before .before .before .before .before .head-line in
+    let head = c .before .before .before .before .before .line-of in
     let line = headLine (start .args .head .model) (start .args .head .divisor) in
     let first = line-put _ line out 0 _ _ (head .ensures .0) (c .before .before .before .put-line .ensures) in
     let same = put-length line out 0 _ _ first in
@@ -32,7 +32,7 @@ tell-requires c κs =
     (start .pre .0, (omega (arith, start .pre .1 .0), omega (arith, start .pre .1 .1, same, place, head .ensures .1)))
 
 put-line-requires-2 : tie.Need-put-line-requires-2
-put-line-requires-2 c κs = line-fits _ _ (c .before .end-line .ensures .0)
+put-line-requires-2 c κs = line-fits _ _ (c .before .line-of2 .ensures .0)
 
 abbrev start : tie.After-slice-known4 → tie.Start
 start c = c .before .before .before .before .before .before .before .before .before .before .before .before .before .before .before .before .before .before
@@ -47,9 +47,9 @@ returns c =
     let a = start c .args in
     let out = now (a .out) in
     let operations = operationsOf (operationsFrom (now (a .trace)) 0 (a .head .operations)) in
-    let head = c .before .before .before .before .before .before .before .before .before .before .before .before .before .head-line in
+    let head = c .before .before .before .before .before .before .before .before .before .before .before .before .before .line-of in
     let lines = c .before .before .before .before .before .before .before .tell in
-    let last = c .before .before .before .before .end-line in
+    let last = c .before .before .before .before .line-of2 in
     let made = c .before .before .before .before .before .before .before .before .before .before .before .before .before .before .before .new in
     let board = ap (λ (o : Outcome). o .board) (made .ensures) ∙ new-board (a .head .model) (a .head .divisor) in
     let many = as-many-as (now (a .trace)) 0 (a .head .operations) (start c .pre .0) in

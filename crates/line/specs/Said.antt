@@ -1,0 +1,15 @@
+-- Document 01, "Recorded traces": what a line of a replay can say.
+use Prim.Native.Nat.{ℕ}
+use mathlib.Core.List.{List, [], _∷_}
+use Rattle.refusal.specs.Refusal.{refusalNumber}
+use Rattle.board.specs.Answer.{replyOf}
+use Rattle.line.specs.declared.sentence.Sentence.{Sentence}
+use Rattle.line.specs.declared.sentence.Sentence.the-variants.{Head, Operation, End, Fault}
+use Rattle.line.specs.Lines.{headLine, operationLine, endLine, faultLine}
+
+-- "a head line, one line for each operation .., and an end line"; "a fault prints only .."
+abbrev pub sentenceText : Sentence → List ℕ
+sentenceText (Head model divisor) = headLine model divisor
+sentenceText (Operation index answer x y left) = operationLine index (replyOf answer) (x ∷ y ∷ []) (left .0)
+sentenceText (End number) = endLine number
+sentenceText (Fault refusal at) = faultLine (refusalNumber refusal) at

@@ -1,0 +1,39 @@
+// What a line can say, and the line that says it.
+use crate::Line;
+use crate::end_line;
+use crate::fault_line;
+use crate::head_line;
+use crate::operation_line;
+use board::Answer;
+use channel::PitType;
+use refusal::Refusal;
+use time::SystemTicks;
+ghost use mathlib.Core.Path.{_≡_};
+ghost use Prim.Native.Nat.{_≤_};
+ghost use lib.ListN.{length};
+ghost use Rattle.line.specs.Line.{lineOf, lineRoom};
+ghost use Rattle.line.specs.Said.{sentenceText};
+
+pub enum Sentence {
+    // Model and divisor.
+    Head(PitType, u32),
+    // Index, answer, the two lent event bytes after the operation, and the remainder after it.
+    Operation(u32, Answer, u8, u8, SystemTicks),
+    // How many operations there were.
+    End(u32),
+    // Why a trace is refused, and where.
+    Fault(Refusal, usize),
+}
+
+pub fn line_of(sentence: Sentence) -> Line
+    ensures { λ r. ⌜ (r ≡ lineOf (sentenceText sentence)) × (length (sentenceText sentence) ≤ lineRoom) ⌝ }
+{
+    match sentence {
+        Sentence::Head(model, divisor) => head_line(model, divisor),
+        Sentence::Operation(index, answer, first, second, left) => {
+            operation_line(index, answer, [first, second], left)
+        }
+        Sentence::End(number) => end_line(number),
+        Sentence::Fault(refusal, at) => fault_line(refusal, at),
+    }
+}
