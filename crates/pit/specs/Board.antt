@@ -9,7 +9,6 @@ use Rattle.channel.specs.Models.{modelNumbered}
 use Rattle.encoding.specs.Front.{putFront}
 use Rattle.board.specs.declared.Board.{Board}
 use Rattle.board.specs.Making.{fresh, new}
-use Rattle.board_encoding.specs.declared.loading.BoardLoaded.{BoardLoaded}
 use Rattle.board_encoding.specs.declared.loading.Found.{Found}
 use Rattle.board_encoding.specs.declared.loading.Found.the-variants.{Whole, Short, Unreadable}
 use Rattle.board_encoding.specs.Stored.{boardBytes}

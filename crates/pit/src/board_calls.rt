@@ -11,7 +11,6 @@ use board_operation::asked::Asked;
 use board_operation::making::Made;
 use channel::PitType;
 ghost use mathlib.Core.Path.{_≡_};
-ghost use lib.ListN.{length};
 ghost use Rattle.encoding.specs.Front.{putFront};
 ghost use Rattle.board_encoding.specs.Stored.{boardBytes};
 ghost use Rattle.pit.specs.Board.{numbersAnswer, newStatus, newAfter, called, calledOn, boardOperation};

@@ -4,7 +4,6 @@ use crate::SHORT_OUT;
 use crate::answering;
 use runner::Replayed;
 ghost use mathlib.Core.Path.{_≡_};
-ghost use lib.ListN.{length};
 ghost use Rattle.runner.specs.Lent.{replyIn, replayInto, answersInto};
 ghost use Rattle.pit.specs.Trace.{replyStatus, replyAfter, replayCalled, replayCall};
 
@@ -41,6 +40,6 @@ pub extern "C" fn pit_answers(trace: &[u8], out: &mut [u8], answer: &mut [u8]) -
     if answer.len() < 16 {
         return SHORT_ANSWER;
     }
-    let replayed = runner::answers_into(trace, out);
-    settle(replayed, answer)
+    let answered = runner::answers_into(trace, out);
+    settle(answered, answer)
 }

@@ -1,77 +1,50 @@
+-- `pit::board_calls::operation_on` meets its contract. Assumes nothing.
+use mathlib.Core.Path.{_∙_}
+use denote.Ref.{now}
 use borrow.Author.Needs.{needs}
+use borrow.Author.Tests.{lt-ltb, eq-eqb, ne-eqb}
+use Rattle.pit.specs.Board.{calledOn}
+use Rattle.pit.proofs.Answered.{made-settled}
 use Rattle.pit.proofs.board_calls.operation_on.Statement.{statement}
 use Rattle.pit.proofs.board_calls.operation_on.Tie as tie
-use Rattle.pit.proofs.board_calls.operation_on.Reads as reads
-use Rattle.pit.proofs.board_calls.operation_on.Lts as lts
-use Rattle.board_operation.proofs.operate.Reads as operate-reads
-use Rattle.pit.proofs.board_calls.write_back.Reads as write-back-reads
 
--- src/board_calls.rt:41:22
-enum-known-asked : tie.Need-enum-known-asked
-enum-known-asked c = search needs
-
--- src/board_calls.rt:42:9
-enum-told : tie.Need-enum-told
-enum-told c = search needs
-
--- src/board_calls.rt:42:9
 returns : tie.Need-returns
-returns c = ?
+unfolding calledOn
+returns c = simp (c .enum-told .given .1)
 
--- src/board_calls.rt:45:9
 returns-2 : tie.Need-returns-2
-returns-2 c = ?
+unfolding calledOn
+returns-2 c = simp (lt-ltb _ _ (c .if1 .taken), c .before .before .asked .given .1)
 
--- src/board_calls.rt:47:9
-operate-requires : tie.Need-operate-requires
-operate-requires c κs = search needs
-
--- src/board_calls.rt:50:9
-write-back-requires : tie.Need-write-back-requires
-write-back-requires c κs = search needs
-
--- src/board_calls.rt:51:9
-same-length : tie.Need-same-length
-same-length c = search needs
-
--- src/board_calls.rt:51:9
-same-length-2 : tie.Need-same-length-2
-same-length-2 c = search needs
-
--- src/board_calls.rt:51:9
-same-length-3 : tie.Need-same-length-3
-same-length-3 c = search needs
-
--- src/board_calls.rt:51:9
 returns-3 : tie.Need-returns-3
-returns-3 c = ?
+returns-3 c =
+    let a = c .before .before .before .before .before .before .before .before .before .before .before .before .before .before .before .before .before .before .before .before .before .args in
+    let made = c .before .before .before .before .before .before .before .before .before .before .before .before .operate in
+    let back = c .before .before .before .before .write-back .ensures in
+    let none = eq-eqb (made .result .numbers .refusal) 0 (c .before .before .before .before .before .before .before .if2 .taken) in
+    (simp (back .0, back .1, none)) ∙ made-settled (a .board) (a .asked) _ (a .place) (now (a .bytes)) (now (a .events)) (now (a .answer)) (made .result) _ (c .before .before .before .before .before .before .before .before .before .before .before .before .before .before .before .before .asked .given .1) (c .before .before .before .before .before .before .before .before .before .before .before .before .before .before .if1 .left) (made .ensures)
 
--- src/board_calls.rt:53:5
-cast-result : tie.Need-cast-result
-cast-result c = search needs
-
--- src/board_calls.rt:31:1
-same-length-4 : tie.Need-same-length-4
-same-length-4 c = search needs
-
--- src/board_calls.rt:31:1
 returns-4 : tie.Need-returns-4
-returns-4 c = ?
+returns-4 c =
+    let a = c .before .before .before .before .before .before .before .before .before .before .before .before .before .before .before .args in
+    let made = c .before .before .before .before .before .before .operate in
+    let set = ne-eqb (made .result .numbers .refusal) 0 (c .before .if2 .left) in
+    (simp set) ∙ made-settled (a .board) (a .asked) _ (a .place) (now (a .bytes)) (now (a .events)) (now (a .answer)) (made .result) _ (c .before .before .before .before .before .before .before .before .before .before .asked .given .1) (c .before .before .before .before .before .before .before .before .if1 .left) (made .ensures)
 
 pub operation-on-spec : {M : Type 1} → statement M
 operation-on-spec =
     tie.close
     (tie.spec
-    enum-known-asked
-    enum-told
+    (λ c. search needs)
+    (λ c. search needs)
     returns
     returns-2
-    operate-requires
-    write-back-requires
-    same-length
-    same-length-2
-    same-length-3
+    (λ c κs. search needs)
+    (λ c κs. search needs)
+    (λ c. search needs)
+    (λ c. search needs)
+    (λ c. search needs)
     returns-3
-    cast-result
-    same-length-4
+    (λ c. search needs)
+    (λ c. search needs)
     returns-4)

@@ -1,65 +1,50 @@
+-- `pit::board_calls::pit_board_new` meets its contract. Assumes nothing.
+use mathlib.Core.Path.{ap, sym, _∙_}
 use borrow.Author.Needs.{needs}
+use borrow.Author.Tests.{lt-ltb, le-ltb}
+use Rattle.refusal.specs.Reply.{numberIn}
+use Rattle.channel.specs.Models.{modelNumbered}
+use Rattle.board.specs.Answer.{replyOf}
+use Rattle.board.specs.Making.{new}
+use Rattle.board.specs.Outcome.{Outcome}
+use Rattle.runner.proofs.Whole.{new-board}
+use Rattle.pit.specs.Board.{newStatus, newAfter}
+use Rattle.pit.proofs.Making.{not-refused, number-set}
 use Rattle.pit.proofs.board_calls.pit_board_new.Statement.{statement}
 use Rattle.pit.proofs.board_calls.pit_board_new.Tie as tie
-use Rattle.pit.proofs.board_calls.pit_board_new.Reads as reads
-use Rattle.pit.proofs.board_calls.pit_board_new.Lts as lts
-use Rattle.board.proofs.Board.new.Reads as new-reads
-use Rattle.board_encoding.proofs.board_bytes.Reads as board-bytes-reads
-use Rattle.channel.proofs.PitType.numbered.Reads as numbered-reads
-use Rattle.encoding.proofs.put_front.Reads as put-front-reads
-use Rattle.refusal.proofs.Refusal.number.Reads as number-reads
 
--- src/board_calls.rt:86:9
 returns : tie.Need-returns
-returns c = ?
+unfolding newStatus newAfter
+returns c = let short = lt-ltb _ _ (c .if1 .taken) in (simp short, simp short)
 
--- src/board_calls.rt:89:9
 returns-2 : tie.Need-returns-2
-returns-2 c = ?
+unfolding newStatus newAfter
+returns-2 c =
+    let long = le-ltb _ _ (c .before .if1 .left) in
+    let unknown = lt-ltb _ _ (c .if2 .taken) in
+    (simp (long, unknown), simp (long, unknown))
 
--- src/board_calls.rt:91:27
-numbered-requires : tie.Need-numbered-requires
-numbered-requires c κs = search needs
-
--- src/board_calls.rt:91:9
-new-requires : tie.Need-new-requires
-new-requires c κs = search needs
-
--- src/board_calls.rt:94:25
-enum-known-answer : tie.Need-enum-known-answer
-enum-known-answer c = search needs
-
--- src/board_calls.rt:95:21
-board-bytes-requires : tie.Need-board-bytes-requires
-board-bytes-requires c κs = search needs
-
--- src/board_calls.rt:96:36
-slice-aggregate-put-front : tie.Need-slice-aggregate-put-front
-slice-aggregate-put-front c = search needs
-
--- src/board_calls.rt:96:9
-put-front-requires : tie.Need-put-front-requires
-put-front-requires c κs = search needs
-
--- src/board_calls.rt:97:9
-same-length : tie.Need-same-length
-same-length c = search needs
-
--- src/board_calls.rt:97:9
 returns-3 : tie.Need-returns-3
-returns-3 c = ?
+unfolding newStatus newAfter
+returns-3 c =
+    let a = c .before .before .before .before .before .before .before .before .before .before .before .before .before .args in
+    let long = le-ltb _ _ (c .before .before .before .before .before .before .before .before .before .before .before .if1 .left) in
+    let known = le-ltb _ _ (c .before .before .before .before .before .before .before .before .before .before .if2 .left) in
+    let made = c .before .before .before .before .before .before .before .before .new .ensures ∙ ap (λ m. new m (a .divisor)) (c .before .before .before .before .before .before .before .before .before .numbered .ensures) in
+    let none = ap (λ (o : Outcome). numberIn (o .reply)) (sym made) ∙ not-refused (c .before .before .before .before .before .before .before .before .new .result .answer) (c .before .before .before .before .before .before .match .keys2) in
+    let board = ap (λ (o : Outcome). o .board) made ∙ new-board (modelNumbered (a .model)) (a .divisor) in
+    (simp (long, known, none), c .before .before .put-front .ensures .1 ∙ simp (long, known, none, c .before .before .before .before .before .board-bytes .ensures, board))
 
--- src/board_calls.rt:99:5
-number-requires : tie.Need-number-requires
-number-requires c κs = search needs
-
--- src/board_calls.rt:99:5
-cast-result : tie.Need-cast-result
-cast-result c = search needs
-
--- src/board_calls.rt:81:1
 returns-4 : tie.Need-returns-4
-returns-4 c = ?
+unfolding newStatus newAfter
+returns-4 c =
+    let a = c .before .before .before .before .before .before .before .before .before .before .args in
+    let long = le-ltb _ _ (c .before .before .before .before .before .before .before .before .if1 .left) in
+    let known = le-ltb _ _ (c .before .before .before .before .before .before .before .if2 .left) in
+    let made = c .before .before .before .before .before .new .ensures ∙ ap (λ m. new m (a .divisor)) (c .before .before .before .before .before .before .numbered .ensures) in
+    let refusal = c .before .before .answer .given in
+    let number = ap (λ (o : Outcome). numberIn (o .reply)) (sym made) ∙ ap (λ r. numberIn (replyOf r)) (refusal .1) in
+    (c .number .ensures ∙ simp (long, known, number), simp (long, known, number, number-set))
 
 pub pit-board-new-spec : {M : Type 1} → statement M
 pit-board-new-spec =
@@ -67,14 +52,14 @@ pit-board-new-spec =
     (tie.spec
     returns
     returns-2
-    numbered-requires
-    new-requires
-    enum-known-answer
-    board-bytes-requires
-    slice-aggregate-put-front
-    put-front-requires
-    same-length
+    (λ c κs. search needs)
+    (λ c κs. search needs)
+    (λ c. search needs)
+    (λ c κs. search needs)
+    (λ c. search needs)
+    (λ c κs. search needs)
+    (λ c. search needs)
     returns-3
-    number-requires
-    cast-result
+    (λ c κs. search needs)
+    (λ c. search needs)
     returns-4)

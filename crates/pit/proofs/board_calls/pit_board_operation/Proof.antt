@@ -1,83 +1,38 @@
+-- `pit::board_calls::pit_board_operation` meets its contract. Assumes nothing.
+use mathlib.Core.Path.{ap, sym, _∙_}
 use borrow.Author.Needs.{needs}
+use Rattle.board_encoding.specs.declared.loading.BoardLoaded.{BoardLoaded}
+use Rattle.pit.specs.Board.{boardOperation}
 use Rattle.pit.proofs.board_calls.pit_board_operation.Statement.{statement}
 use Rattle.pit.proofs.board_calls.pit_board_operation.Tie as tie
-use Rattle.pit.proofs.board_calls.pit_board_operation.Reads as reads
-use Rattle.pit.proofs.board_calls.pit_board_operation.Lts as lts
-use Rattle.board_encoding.proofs.load_board.Reads as load-board-reads
-use Rattle.board_operation.proofs.operation_of.Reads as operation-of-reads
-use Rattle.pit.proofs.board_calls.operation_on.Reads as operation-on-reads
 
--- src/board_calls.rt:68:9
-load-board-requires : tie.Need-load-board-requires
-load-board-requires c κs = search needs
-
--- src/board_calls.rt:72:25
-enum-told : tie.Need-enum-told
-enum-told c = search needs
-
--- src/board_calls.rt:73:30
-enum-told-2 : tie.Need-enum-told-2
-enum-told-2 c = search needs
-
--- src/board_calls.rt:75:17
-enum-told-3 : tie.Need-enum-told-3
-enum-told-3 c = search needs
-
--- src/board_calls.rt:75:17
-operation-of-requires : tie.Need-operation-of-requires
-operation-of-requires c κs = search needs
-
--- src/board_calls.rt:76:13
-operation-on-requires : tie.Need-operation-on-requires
-operation-on-requires c κs = search needs
-
--- src/board_calls.rt:56:1
-same-length : tie.Need-same-length
-same-length c = search needs
-
--- src/board_calls.rt:56:1
 returns : tie.Need-returns
-returns c = ?
+unfolding boardOperation
+returns c = simp (ap (λ (l : BoardLoaded). l .found) (sym (c .before .before .before .load-board .ensures)) ∙ c .enum-told .given .1)
 
--- src/board_calls.rt:56:1
-same-length-2 : tie.Need-same-length-2
-same-length-2 c = search needs
-
--- src/board_calls.rt:56:1
 returns-2 : tie.Need-returns-2
-returns-2 c = ?
+unfolding boardOperation
+returns-2 c = simp (ap (λ (l : BoardLoaded). l .found) (sym (c .before .before .before .load-board .ensures)) ∙ c .enum-told2 .given .1)
 
--- src/board_calls.rt:56:1
-same-length-3 : tie.Need-same-length-3
-same-length-3 c = search needs
-
--- src/board_calls.rt:56:1
-same-length-4 : tie.Need-same-length-4
-same-length-4 c = search needs
-
--- src/board_calls.rt:56:1
-same-length-5 : tie.Need-same-length-5
-same-length-5 c = search needs
-
--- src/board_calls.rt:56:1
 returns-3 : tie.Need-returns-3
-returns-3 c = ?
+unfolding boardOperation
+returns-3 c = rw⁻¹ (c .before .before .before .before .before .before .before .before .before .before .before .before .before .before .load-board .ensures) (rw (c .before .before .before .before .before .before .before .before .before .before .before .enum-told3 .given .1) (rw⁻¹ (c .before .before .before .before .before .before .before .before .before .before .operation-of .ensures) (c .before .before .before .before .before .before .operation-on .ensures)))
 
 pub pit-board-operation-spec : {M : Type 1} → statement M
 pit-board-operation-spec =
     tie.close
     (tie.spec
-    load-board-requires
-    enum-told
-    enum-told-2
-    enum-told-3
-    operation-of-requires
-    operation-on-requires
-    same-length
+    (λ c κs. search needs)
+    (λ c. search needs)
+    (λ c. search needs)
+    (λ c. search needs)
+    (λ c κs. search needs)
+    (λ c κs. search needs)
+    (λ c. search needs)
     returns
-    same-length-2
+    (λ c. search needs)
     returns-2
-    same-length-3
-    same-length-4
-    same-length-5
+    (λ c. search needs)
+    (λ c. search needs)
+    (λ c. search needs)
     returns-3)

@@ -1,0 +1,3 @@
+pub mod Making
+pub mod Answered
+pub mod Leaves

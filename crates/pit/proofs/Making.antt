@@ -1,0 +1,42 @@
+-- A board that is made: an answer that is no refusal has number 0, and no refusal has it. Assumes nothing.
+use mathlib.Core.Bool.{false}
+use mathlib.Core.List.{[], _∷_}
+use mathlib.Core.Path.{_≡_, refl}
+use types.Run.{OneOf, miss}
+use denote.Enum.Declared.{tagOf}
+use lib.Dec.{eqb}
+use Rattle.refusal.specs.Reply.{numberIn}
+use Rattle.refusal.specs.declared.Refusal.{Refusal}
+use Rattle.refusal.specs.declared.Refusal.the-variants.{PortUnknown, ChannelAbove2, DivisorZero, TicksBelowWarp, RemainderTooLarge, TooManyCounts, PlacePastEnd, NoRoom, TraceEnds, SettingsCount, TooManyOperations, UnknownCode, BytesAfter, RuleBroken}
+use Rattle.refusal.specs.Refusal.{refusalNumber}
+use Rattle.board.specs.declared.Answer.{Answer}
+use Rattle.board.specs.declared.Answer.the-variants.{Refused, Done, Place, Byte, Ticks, OutputState, Count, Retriggers, Dirty}
+use Rattle.board.specs.Answer.{replyOf}
+use Rattle.board.proofs.Answer.{the-type}
+
+pub not-refused : (a : Answer) → OneOf (1 ∷ 2 ∷ 3 ∷ 4 ∷ 5 ∷ 6 ∷ 7 ∷ 8 ∷ []) (tagOf the-type a) → numberIn (replyOf a) ≡ 0
+not-refused (Refused refusal) other = absurd (miss (1 ∷ 2 ∷ 3 ∷ 4 ∷ 5 ∷ 6 ∷ 7 ∷ 8 ∷ []) 0 tt other)
+not-refused Done other = refl
+not-refused (Place p) other = refl
+not-refused (Byte x) other = refl
+not-refused (Ticks t) other = refl
+not-refused (OutputState level) other = refl
+not-refused (Count c) other = refl
+not-refused (Retriggers answer) other = refl
+not-refused (Dirty dirty counting ticked) other = refl
+
+pub number-set : (refusal : Refusal) → eqb (refusalNumber refusal) 0 ≡ false
+number-set PortUnknown = refl
+number-set ChannelAbove2 = refl
+number-set DivisorZero = refl
+number-set TicksBelowWarp = refl
+number-set RemainderTooLarge = refl
+number-set TooManyCounts = refl
+number-set PlacePastEnd = refl
+number-set NoRoom = refl
+number-set TraceEnds = refl
+number-set SettingsCount = refl
+number-set TooManyOperations = refl
+number-set UnknownCode = refl
+number-set BytesAfter = refl
+number-set RuleBroken = refl
