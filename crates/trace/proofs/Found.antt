@@ -1,16 +1,20 @@
 -- The operation that is found at an index, where it is sound. Assumes nothing.
-use Prim.Native.Nat.{ℕ, _+_, _<_, _≤_}
+use Prim.Native.Nat.{ℕ, _+_, _%_, _<_, _≤_}
+use mathlib.Core.Bool.{Bool, true, false, cond}
 use mathlib.Core.List.{List}
-use mathlib.Core.Path.{_≡_, refl, sym, ap, subst, _∙_}
+use mathlib.Core.Path.{_≡_, refl, sym, ap, _∙_}
 use lib.ListN.{length, getD}
-use borrow.Author.Tests.{le-ltb, lt-ltb}
+use native.Mathlib.Omega.{arith}
+use lib.Dec.{eqb, ltb}
+use borrow.Author.Tests.{le-ltb, lt-ltb, eqb-true, ltb-true, ltb-false}
 use Rattle.numbers.specs.Number.{numberAt}
 use Rattle.trace.specs.declared.operation.Operation.{Operation}
+use Rattle.trace.specs.declared.operation.Operation.the-variants.{Reset}
 use Rattle.trace.specs.declared.rule.Rule.{Rule}
 use Rattle.trace.specs.declared.rule.Rule.the-variants.{None, Code, Target, Number}
 use Rattle.trace.specs.Judgement.{Judgement, refusedAt, sound}
 use Rattle.trace.specs.Rule.{brokenRule}
-use Rattle.trace.specs.Operation.{operationOf, judgedBy, sixBytes, placeOf, operationAt}
+use Rattle.trace.specs.Operation.{operationOf, judgedBy, sixBytes, fitted, unjudged, placeOf, operationAt, operationIn}
 use Rattle.trace.proofs.Codes.{kept}
 use Rattle.trace.proofs.Values.{not-refused}
 
@@ -25,11 +29,15 @@ ruled-sound Code place value found e = absurd (not-refused found 12 place (sym e
 ruled-sound Target place value found e = absurd (not-refused found 14 (place + 1) (sym e))
 ruled-sound Number place value found e = absurd (not-refused found 14 (place + 2) (sym e))
 
-pub none-past : (bytes : List ℕ) (index : ℕ) (o : Operation) → length bytes < placeOf index + 6 → operationAt bytes index ≡ sound o → ⊥
-unfolding operationAt
-none-past bytes index o h e = not-refused o 9 (length bytes) (sym e ∙ simp (lt-ltb (length bytes) (placeOf index + 6) h))
+fits-itself : (code number : ℕ) (one : Bool) → eqb code 1 ≡ one → (code ≡ 1 → number < 256) → cond one (number % 256) number ≡ number
+fits-itself code number true is few = let h = few (eqb-true code 1 is) in omega (arith, h)
+fits-itself code number false is few = refl
 
-module _ (bytes : List ℕ) (index : ℕ) (o : Operation) where
+-- an operation that breaks no rule is its code's, with the number as it is
+pub fitted-kept : (code target number : ℕ) → brokenRule code target number ≡ None → fitted code number ≡ number
+fitted-kept code target number e = fits-itself code number (eqb code 1) refl (kept code target number e .1)
+
+module _ (bytes : List ℕ) (index : ℕ) (o : Operation) (is : operationAt bytes index ≡ sound o) where
   abbrev code : ℕ
   code = getD bytes (placeOf index) 0
 
@@ -39,15 +47,22 @@ module _ (bytes : List ℕ) (index : ℕ) (o : Operation) where
   abbrev number : ℕ
   number = numberAt bytes (placeOf index + 2)
 
-  -- a byte where it writes one, and the operation of its code, target and number
-  found-there : placeOf index + 6 ≤ length bytes → operationAt bytes index ≡ sound o → (code ≡ 1 → number < 256) × (operationOf code target number ≡ o)
+  missing : length bytes < placeOf index + 6 → ⊥
   unfolding operationAt
-  found-there h e =
-      let six : sixBytes bytes (placeOf index) ≡ sound o = sym (simp (le-ltb (length bytes) (placeOf index + 6) h)) ∙ e in
-      let both = ruled-sound (brokenRule code target number) (placeOf index) (operationOf code target number) o six in
-      (kept code target number (both .0) .1, both .1)
+  missing h = not-refused o 9 (length bytes) (sym is ∙ simp (lt-ltb (length bytes) (placeOf index + 6) h))
 
--- the same of a place and a number that are known to be the operation's
-pub found-at : (bytes : List ℕ) (index : ℕ) (o : Operation) (p n : ℕ) → p ≡ placeOf index → n ≡ numberAt bytes (p + 2) → p + 6 ≤ length bytes
-    → operationAt bytes index ≡ sound o → (getD bytes p 0 ≡ 1 → n < 256) × (operationOf (getD bytes p 0) (getD bytes (p + 1) 0) n ≡ o)
-found-at bytes index o p n place-is number-is h e = rw (number-is, place-is) (found-there bytes index o (subst (λ (q : ℕ). q + 6 ≤ length bytes) place-is h) e)
+  there : placeOf index + 6 ≤ length bytes → unjudged bytes (placeOf index) ≡ o
+  unfolding operationAt
+  there h =
+      let six : sixBytes bytes (placeOf index) ≡ sound o = sym (simp (le-ltb (length bytes) (placeOf index + 6) h)) ∙ is in
+      let both = ruled-sound (brokenRule code target number) (placeOf index) (operationOf code target number) o six in
+      ap (operationOf code target) (fitted-kept code target number (both .0)) ∙ both .1
+
+  by-length : (short : Bool) → ltb (length bytes) (placeOf index + 6) ≡ short → cond short Reset (unjudged bytes (placeOf index)) ≡ o
+  by-length true e = absurd (missing (ltb-true (length bytes) (placeOf index + 6) e))
+  by-length false e = there (ltb-false (length bytes) (placeOf index + 6) e)
+
+  -- where the operation of an index is sound, that is what is found
+  pub in-sound : operationIn bytes index ≡ o
+  unfolding operationIn
+  in-sound = by-length (ltb (length bytes) (placeOf index + 6)) refl

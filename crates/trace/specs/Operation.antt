@@ -1,10 +1,10 @@
 -- Document 01, "Recorded traces": "operations of six bytes: code, target, number."
-use Prim.Native.Nat.{ℕ, _+_, _*_}
+use Prim.Native.Nat.{ℕ, _+_, _*_, _%_}
 use mathlib.Core.Bool.{cond}
 use mathlib.Core.List.{List}
 use mathlib.Core.Path.{_≡_}
-use lib.Dec.{eqb}
-use lib.ListN.{getD}
+use lib.Dec.{eqb, ltb}
+use lib.ListN.{length, getD}
 use Rattle.numbers.specs.Number.{numberAt}
 use Rattle.trace.specs.declared.rule.Rule.{Rule}
 use Rattle.trace.specs.declared.rule.Rule.the-variants.{None, Code, Target, Number}
@@ -49,6 +49,15 @@ placeOf index = 16 + 6 * index
 unfoldable pub operationAt : List ℕ → ℕ → Judgement Operation
 operationAt bytes index = present bytes (placeOf index + 6) (sixBytes bytes (placeOf index))
 
--- the operation of an index, where there is a sound one
-abbrev pub Finds : List ℕ → ℕ → Operation → Type 0
-Finds bytes index found = (o : Operation) → operationAt bytes index ≡ sound o → found ≡ o
+-- a number as the code has it: of a write its low byte. By the rules a write has no other
+abbrev pub fitted : ℕ → ℕ → ℕ
+fitted code number = cond (eqb code 1) (number % 256) number
+
+-- the operation whose six bytes begin at a place, whatever the rules say of it
+abbrev pub unjudged : List ℕ → ℕ → Operation
+unjudged bytes place =
+    operationOf (getD bytes place 0) (getD bytes (place + 1) 0) (fitted (getD bytes place 0) (numberAt bytes (place + 2)))
+
+-- the operation of an index of a sound trace (`in-sound`); where its bytes are missing, a reset stands for it
+unfoldable pub operationIn : List ℕ → ℕ → Operation
+operationIn bytes index = cond (ltb (length bytes) (placeOf index + 6)) Reset (unjudged bytes (placeOf index))

@@ -6,8 +6,7 @@ use numbers::number_at;
 use refusal::Refusal;
 use time::SystemTicks;
 ghost use mathlib.Core.Path.{_≡_};
-ghost use Prim.Native.Nat.{_<_};
-ghost use Rattle.trace.specs.Operation.{operationOf, NoneOfFour, placeOf, operationAt, Finds};
+ghost use Rattle.trace.specs.Operation.{operationOf, NoneOfFour, fitted, placeOf, operationAt, operationIn};
 ghost use Rattle.trace.specs.Answer.{operationJudged};
 
 // Ports and channels are as the trace has them: a bad one is refused when it is run.
@@ -46,7 +45,7 @@ fn later_operation(code: u8, target: u8, number: u32) -> Operation
 }
 
 fn operation_of(code: u8, target: u8, number: u32) -> Operation
-    ensures { λ r. ⌜ ((code ≡ 1 → number < 256) → r ≡ operationOf code target number) ⌝ }
+    ensures { λ r. ⌜ r ≡ operationOf code target (fitted code number) ⌝ }
 {
     match code {
         1 => Operation::WritePort(target, (number % 256) as u8),
@@ -90,10 +89,10 @@ pub fn operation_at(bytes: &[u8], index: u32) -> OperationJudged
     }
 }
 
-// The operation of an index of a sound trace. Of another trace it is some operation, which nobody asks for. It is no judgement: the runner asks after the
-// whole trace was judged, and a judgement around each operation would be put together and taken apart for nothing.
+// The operation of an index of a sound trace. It is no judgement: the runner asks after the whole trace was judged, and a judgement around each operation would
+// be put together and taken apart for nothing. Where bytes are missing, a reset stands for it.
 pub fn operation_in(bytes: &[u8], index: u32) -> Operation
-    ensures { λ r. ⌜ Finds (now (bytes .entry)) index r ⌝ }
+    ensures { λ r. ⌜ r ≡ operationIn (now (bytes .entry)) index ⌝ }
 {
     let place = place_of(index);
     if bytes.len() < place + 6 {

@@ -7,7 +7,7 @@ mod measure;
 mod ours;
 mod workloads;
 
-use measure::{head, print_row, sides, Row};
+use measure::{apart, apart_head, head, print_apart, print_row, sides, Apart, Row};
 use original::pit::baseline;
 use std::hint::black_box;
 use workloads::Workload;
@@ -33,32 +33,28 @@ fn whole(workload: &Workload, repetitions: usize, mine: Whole, theirs: Whole) ->
     sides(workload.name, workload.operations, repetitions, &mut one, &mut other)
 }
 
-/// The same operations one call at a time, our board in bytes between the calls.
-fn one_at_a_time(workload: &Workload, repetitions: usize) -> Row {
+/// The same operations one call at a time, our board in bytes between the calls; and a call that only loads the board, answers a number and stores it again.
+fn one_at_a_time(workload: &Workload, repetitions: usize) -> Apart {
     let trace = &workload.trace[..];
     let operations: Vec<(u8, u16, u32)> = workload.each().collect();
-    let mut board = ours::Board::fresh(1, 12);
+    let (mut board, mut other_board) = (ours::Board::fresh(1, 12), ours::Board::fresh(1, 12));
     let mut timer = baseline::Baseline::fresh(trace);
-    let mut one = || {
+    let mut call = || {
         for (code, target, number) in &operations {
             black_box(board.operation(*code, *target, *number));
         }
     };
-    let mut other = || {
+    let mut boundary = || {
+        for _ in 0..workload.operations {
+            black_box(other_board.operation(black_box(ours::GET_TIMER_ACCUM), 0, 0));
+        }
+    };
+    let mut original = || {
         for index in 0..workload.operations {
             black_box(baseline::one(&mut timer, black_box(trace), index));
         }
     };
-    sides(workload.name, workload.operations, repetitions, &mut one, &mut other)
-}
-
-/// What a call of ours costs that only loads the board from its bytes, answers a number and stores it again.
-fn boundary(repetitions: usize) -> f64 {
-    let mut board = ours::Board::fresh(1, 12);
-    let mut one = || {
-        black_box(board.operation(black_box(21), 0, 0));
-    };
-    sides("", 1, repetitions, &mut one, &mut || ()).ours
+    apart(workload.name, workload.operations, repetitions, [&mut call, &mut boundary, &mut original])
 }
 
 fn everything(repetitions: usize) {
@@ -74,14 +70,9 @@ fn everything(repetitions: usize) {
     for workload in workloads::growing() {
         print_row(&whole(&workload, repetitions, ours::answers, baseline::answers));
     }
-    let cost = boundary(repetitions);
-    head("one call at a time, our board in bytes");
-    println!("{:<40} {cost:>10.2}", "the boundary alone");
+    apart_head("one call at a time, our board in bytes");
     for workload in workloads::single() {
-        let row = one_at_a_time(&workload, repetitions);
-        print_row(&row);
-        let by_value = Row { name: "  of it the call by value", ours: (row.ours - cost).max(0.0), original: row.original };
-        print_row(&by_value);
+        print_apart(&one_at_a_time(&workload, repetitions));
     }
 }
 

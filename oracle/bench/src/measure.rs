@@ -48,6 +48,41 @@ pub fn sides(name: &'static str, operations: usize, repetitions: usize, one: &mu
     Row { name, ours: median(ours) * each, original: median(original) * each }
 }
 
+/// Nanoseconds a call: ours, what of it is the boundary, what is left for the call by value, and the original's.
+pub struct Apart {
+    name: &'static str,
+    call: f64,
+    boundary: f64,
+    by_value: f64,
+    original: f64,
+}
+
+/// Three runs in turn: calls of ours, calls of ours that only cross the boundary, and the original's. What is left is taken repetition by repetition.
+pub fn apart(name: &'static str, operations: usize, repetitions: usize, runs: [&mut dyn FnMut(); 3]) -> Apart {
+    let [call, boundary, original] = runs;
+    let many = [turns(call), turns(boundary), turns(original)];
+    let mut times: [Vec<f64>; 4] = Default::default();
+    for repetition in 0..WARM_UP + repetitions.max(1) {
+        let (a, b, c) = (time(many[0], call), time(many[1], boundary), time(many[2], original));
+        if repetition >= WARM_UP {
+            for (all, one) in times.iter_mut().zip([a, b, a - b, c]) {
+                all.push(one);
+            }
+        }
+    }
+    let each = 1e9 / operations as f64;
+    let [call, boundary, by_value, original] = times.map(|all| median(all) * each);
+    Apart { name, call, boundary, by_value, original }
+}
+
+pub fn apart_head(what: &str) {
+    println!("\n{what}\n{:<40} {:>10} {:>10} {:>10} {:>10}", "nanoseconds a call, medians", "ours", "boundary", "by value", "original");
+}
+
+pub fn print_apart(row: &Apart) {
+    println!("{:<40} {:>10.2} {:>10.2} {:>10.2} {:>10.2}", row.name, row.call, row.boundary, row.by_value, row.original);
+}
+
 pub fn head(what: &str) {
     println!("\n{what}\n{:<40} {:>10} {:>10} {:>7}", "nanoseconds an operation, medians", "ours", "original", "ratio");
 }

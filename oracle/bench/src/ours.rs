@@ -1,5 +1,8 @@
 //! Our timer behind the functions that it exports.
 
+/// The code of a query that leaves the board as it is.
+pub const GET_TIMER_ACCUM: u8 = 21;
+
 extern "C" {
     fn pit_board_new(board: *mut u8, board_len: usize, model: u8, divisor: u32) -> u32;
     fn pit_board_operation(

@@ -5,7 +5,7 @@ use lib.ListN.{getD}
 use borrow.Author.Tests.{le-ltb, lt-ltb}
 use borrow.Author.Needs.{needs}
 use Rattle.trace.specs.Operation.{operationOf, judgedBy, operationAt}
-use Rattle.trace.proofs.Codes.{kept}
+use Rattle.trace.proofs.Found.{fitted-kept}
 use Rattle.trace.proofs.operation.operation_at.Statement.{statement}
 use Rattle.trace.proofs.operation.operation_at.Tie as tie
 
@@ -44,8 +44,8 @@ returns-5 : tie.Need-returns-5
 returns-5 c =
     let at-rule = c .before .before .before in
     let bytes = start at-rule .args .bytes .now in
-    let fits = kept (getD bytes (place at-rule) 0) (getD bytes (place at-rule + 1) 0) (at-rule .before .number-at .result) (sym (at-rule .broken-rule .ensures) ∙ c .before .enum-told4 .given .1) .1 in
-    simp (c .operation-of .ensures fits, judged at-rule, c .before .enum-told4 .given .1)
+    let fits = fitted-kept (getD bytes (place at-rule) 0) (getD bytes (place at-rule + 1) 0) (at-rule .before .number-at .result) (sym (at-rule .broken-rule .ensures) ∙ c .before .enum-told4 .given .1) in
+    simp (c .operation-of .ensures, fits, judged at-rule, c .before .enum-told4 .given .1)
 
 pub operation-at-spec : {M : Type 1} → statement M
 operation-at-spec =

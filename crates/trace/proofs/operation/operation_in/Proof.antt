@@ -1,24 +1,18 @@
 -- `trace::operation::operation_in` meets its contract. Assumes nothing.
-use Prim.Native.Nat.{ℕ, _+_, _<_}
-use mathlib.Core.Path.{subst, _∙_}
-use denote.Ref.{now}
-use lib.ListN.{length}
+use mathlib.Core.Path.{sym}
+use borrow.Author.Tests.{lt-ltb, le-ltb}
 use borrow.Author.Needs.{needs}
-use Rattle.trace.proofs.Found.{none-past, found-at}
+use Rattle.trace.specs.Operation.{operationIn}
 use Rattle.trace.proofs.operation.operation_in.Statement.{statement}
 use Rattle.trace.proofs.operation.operation_in.Tie as tie
 
 returns : tie.Need-returns
-returns c o is =
-    let a = c .before .before .before .args in
-    let bytes = now (a .bytes) in
-    absurd (none-past bytes (a .index) o (subst (λ (p : ℕ). length bytes < p + 6) (c .before .place-of .ensures) (c .if1 .taken)) is)
+unfolding operationIn
+returns c = simp (sym (c .before .place-of .ensures), lt-ltb _ _ (c .if1 .taken))
 
 returns-2 : tie.Need-returns-2
-returns-2 c o is =
-    let a = c .before .before .before .before .before .before .before .args in
-    let there = found-at (now (a .bytes)) (a .index) o _ _ (c .before .before .before .before .before .place-of .ensures) (c .before .number-at .ensures) (c .before .before .before .before .if1 .left) is in
-    c .operation-of .ensures (there .0) ∙ there .1
+unfolding operationIn
+returns-2 c = simp (sym (c .before .before .before .before .before .place-of .ensures), le-ltb _ _ (c .before .before .before .before .if1 .left), c .operation-of .ensures, c .before .number-at .ensures)
 
 pub operation-in-spec : {M : Type 1} → statement M
 operation-in-spec =
