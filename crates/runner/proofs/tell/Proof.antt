@@ -15,6 +15,7 @@ use Rattle.board.specs.Making.{reset}
 use Rattle.text.specs.Put.{put, answered}
 use Rattle.trace.specs.Trace.{operationsFrom}
 use Rattle.trace.specs.Answer.{operationsOf}
+use Rattle.trace.proofs.Found.{in-sound}
 use Rattle.turn.specs.Asked.{lent}
 use Rattle.turn.specs.declared.finding.Work.{Work}
 use Rattle.turn.specs.declared.finding.Turn.the-variants.{OnChannel}
@@ -56,7 +57,7 @@ next t outcome comes at₁ out₁ said =
       omega (arith, h),
       goes-on (a .form) (now (a .trace)) (a .first) (a .number) (start t .pre .0) (a .start) (now (a .out)) (a .place) (l .b) (l .at) (l .j) (l .out) (l .inv .1) h
           (t .before .operation-in .result)
-          (t .before .operation-in .ensures)
+          (λ p e. t .before .operation-in .ensures ∙ in-sound (now (a .trace)) (a .first + l .j) p e)
           outcome
           (t .turn-of .ensures .1 (l .b) ∙ comes)
           at₁
