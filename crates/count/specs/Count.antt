@@ -27,7 +27,7 @@ withTicked c =
 unfoldable pub count : Channel → Channel
 count c = withTicked (putElement c (nextElement c))
 
--- the output latch and `ticked` after a number of counts, the last of which leaves e in the counting element; as they were where no count is made
+-- What follows says nothing new and need not be believed: n counts by parts, as the code has them (`counted-at-once`). The output latch and `ticked` after a number of counts, the last of which leaves e in the counting element; as they were where no count is made
 abbrev pub followedBy : ℕ → Latch → ℕ → Latch
 followedBy number l e = cond (eqb number 0) l (followed l e)
 

@@ -85,6 +85,6 @@ channelAt bytes =
       dirty = flagAt bytes 28;
     }
 
--- "101 fewer than 29 bytes of record", "102 the record is not readable"
+-- "101 fewer bytes of record .. than it has", "102 the record .. is not readable"
 unfoldable pub loadChannel : List ℕ → Loaded
 loadChannel bytes = cond (ltb (length bytes) 29) Short (cond (readable bytes) (Whole (channelAt bytes)) Unreadable)

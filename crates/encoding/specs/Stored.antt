@@ -1,4 +1,4 @@
--- docs/ENCODING.md, "A channel's record": the 29 bytes of a channel, group by group in the order of the record.
+-- docs/ENCODING.md, "A channel's record": the 29 bytes of a channel, group by group in the order of the table.
 use Prim.Native.Nat.{ℕ}
 use mathlib.Core.List.{List, [], _∷_, _++_}
 use Rattle.numbers.specs.Flags.{flagNumber}

@@ -40,7 +40,15 @@ fn operation(
     let code = case[118];
     let target = numbers::word(case[119], case[120]);
     let number = numbers::number_at(case, 121);
-    pit::pit_board_operation(board, &mut events[..lent], answer, place, code, target, number)
+    pit::pit_board_operation(
+        board,
+        &mut events[..lent],
+        answer,
+        place,
+        code,
+        target,
+        number,
+    )
 }
 
 fn agrees(case: &[u8]) -> bool {
@@ -52,7 +60,13 @@ fn agrees(case: &[u8]) -> bool {
     let mut answer = [OLD_ANSWER; 16];
     bytes::copy(&case[0..101], &mut board);
     bytes::copy(&case[102..110], &mut events);
-    let status = operation(case, &mut board, &mut events, case[101] as usize, &mut answer);
+    let status = operation(
+        case,
+        &mut board,
+        &mut events,
+        case[101] as usize,
+        &mut answer,
+    );
     if status != case[125] as u32 {
         return false;
     }

@@ -57,7 +57,7 @@ withGate c level = withPins c (record { gate = level; output = c .pins .output }
 unfoldable pub setGate : Channel → Bool → Channel
 setGate c level = withGate (afterEdge c level) level
 
--- the same by parts: whether the edge from a level to a level enters a state, in a mode, and which; and whether it makes the output high
+-- What follows says nothing new and need not be believed: the same by parts, as the code has it (`gate-by-parts`). Whether the edge from a level to a level enters a state, in a mode, and which; and whether it makes the output high
 abbrev pub enters : ChannelMode → Bool → Bool → Bool
 enters m false false = false
 enters m false true = loadsOnRise m

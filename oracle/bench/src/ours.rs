@@ -41,6 +41,7 @@ pub fn replay(trace: &[u8], out: &mut [u8]) -> Option<usize> {
 }
 
 /// A board in bytes.
+#[derive(Clone)]
 pub struct Board([u8; 101]);
 
 impl Board {

@@ -97,7 +97,7 @@ fn mixed(number: usize) -> Vec<Six> {
             24..=26 => six(5, c, 0),
             27 | 28 => six(6, 0, 40 + (r >> 28)),
             29 | 30 => six(7, 0, 60 + (r >> 28)),
-            _ if r >> 24 == 0 => six(8, 0, 0),
+            _ if r >> 29 == 0 => six(8, 0, 0),
             _ => six(2, 0x44, 0),
         }
     })
@@ -115,6 +115,7 @@ pub fn all() -> Vec<Workload> {
         workload("65,536 counts a call, binary", counts(128, 65_536, 0x30)),
         workload("65,536 counts a call, BCD", counts(36, 65_536, 0x31)),
         workload("catch-ups and runs, 24 ticks", times(4096, 24)),
+        workload("catch-ups and runs, 60 ticks", times(4096, 60)),
         workload("catch-ups and runs, 12,000 ticks", times(4096, 12_000)),
     ]
 }

@@ -20,14 +20,14 @@ pub struct BoardBench<'a> {
     original: StandingBoard,
     /// What the original's last step answered, or the message of its panic.
     said: Result<String, String>,
-    /// A refusal or a panic that no line has expected yet.
-    unseen: Option<String>,
+    /// A refusal and a panic that no line has expected yet.
+    unseen: Vec<String>,
 }
 
 impl<'a> BoardBench<'a> {
     pub fn new(calls: &'a mut Ours) -> Self {
         let (ours, original, said) = (fresh(0, 12), StandingBoard::new(0, 12), Ok(String::new()));
-        Self { calls, ours, status: 0, answer: 0, events: Vec::new(), original, said, unseen: None }
+        Self { calls, ours, status: 0, answer: 0, events: Vec::new(), original, said, unseen: Vec::new() }
     }
 
     pub fn line(&mut self, words: &[&str]) -> Result<(), String> {
@@ -39,16 +39,16 @@ impl<'a> BoardBench<'a> {
                 self.step(words)?;
                 let refusal = (self.status != 0).then(|| format!("ours refuses with {}", self.status));
                 let panic = self.said.as_ref().err().map(|message| format!("the original panics: {message}"));
-                self.unseen = refusal.or(panic);
+                self.unseen = refusal.into_iter().chain(panic).collect();
                 Ok(())
             }
         }
     }
 
     pub fn nothing_unseen(&self) -> Result<(), String> {
-        match &self.unseen {
-            Some(what) => Err(format!("{what}, and no line expects it")),
+        match self.unseen.first() {
             None => Ok(()),
+            Some(what) => Err(format!("{what}, and no line expects it")),
         }
     }
 
@@ -149,7 +149,8 @@ impl<'a> BoardBench<'a> {
     fn due_and_ours(&mut self, what: &str, value: &str) -> Result<(String, String), String> {
         let is = match what {
             "refused" => {
-                self.unseen = self.unseen.take().filter(|_| self.said.is_err() && self.status == 0);
+                // A panic of the original has a line of its own to be expected by.
+                self.unseen.retain(|seen| !seen.starts_with("ours"));
                 self.status.to_string()
             }
             "answer" => self.answer.to_string(),
@@ -162,7 +163,7 @@ impl<'a> BoardBench<'a> {
     fn due_and_original(&mut self, what: &str, value: &str) -> Result<(String, String), String> {
         let is = match what {
             "panics" => {
-                self.unseen = self.unseen.take().filter(|seen| seen.starts_with("ours"));
+                self.unseen.retain(|seen| seen.starts_with("ours"));
                 self.said.clone().err().unwrap_or("no panic".to_string())
             }
             "answer" => self.said.clone().unwrap_or("a panic".to_string()),

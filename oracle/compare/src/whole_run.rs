@@ -76,6 +76,10 @@ fn traces(ours: &mut Ours, operations: u64, seed: u64) -> Compared {
     let damaged: Vec<String> = [3, 9, 10, 11, 12, 13, 14].map(|number| format!("{number}: {}", judge.damaged[number])).to_vec();
     println!("sound traces: {} with {} operations", judge.sound, judge.operations);
     println!("damaged traces: {} ({})", judge.damaged.iter().sum::<u64>(), damaged.join(", "));
+    println!(
+        "of their time calls judged by document 01 alone: {}, without catch_up and run: {}",
+        judge.oracle.alone, judge.oracle.not_ticked
+    );
     println!("refused by ours with 104 or 105, or with a damaged trace's number: {}", judge.refused);
     println!("traces: {} operations, {} differ ({:.1} s)", judge.operations, judge.differ, started.elapsed().as_secs_f64());
     Compared { operations: judge.operations, differ: judge.differ }

@@ -1,6 +1,6 @@
 //! Stands for MartyPC's `bus`: the devices that the original calls when an output changes, which here write down the calls, and the types of
-//! its interface to devices. Left out: everything else a bus does. The three devices are always there, and the speaker's inputs are constant; no
-//! operation that is compared asks for them.
+//! its interface to devices. Left out: everything else a bus does. The three devices are always there, and the PPI's inputs are constant: its ticks
+//! ask for them, and on what they do to channel 2's gate nothing is compared but row A21 of docs/DIFFERENCES.md.
 
 use crate::cpu_common::LogicAnalyzer;
 
@@ -13,9 +13,28 @@ pub enum Call {
     PpiOutputBit(bool),
 }
 
+/// The calls of one device: all of them, or, where only time is measured, how many and the last, which costs the same for each.
+#[derive(Default)]
+struct Calls {
+    counted_only: bool,
+    made: u64,
+    last: Option<Call>,
+    all: Vec<Call>,
+}
+
+impl Calls {
+    fn push(&mut self, call: Call) {
+        self.made += 1;
+        self.last = Some(call);
+        if !self.counted_only {
+            self.all.push(call);
+        }
+    }
+}
+
 #[derive(Default)]
 pub struct Pic {
-    calls: Vec<Call>,
+    calls: Calls,
 }
 
 impl Pic {
@@ -30,7 +49,7 @@ impl Pic {
 
 #[derive(Default)]
 pub struct Dma {
-    calls: Vec<Call>,
+    calls: Calls,
 }
 
 impl Dma {
@@ -41,7 +60,7 @@ impl Dma {
 
 #[derive(Default)]
 pub struct Ppi {
-    calls: Vec<Call>,
+    calls: Calls,
 }
 
 impl Ppi {
@@ -71,6 +90,19 @@ impl Default for BusInterface {
 }
 
 impl BusInterface {
+    /// A bus that counts its calls and does not keep them.
+    pub fn counting() -> Self {
+        let calls = || Calls { counted_only: true, ..Calls::default() };
+        Self { pic: Some(Pic { calls: calls() }), dma: Some(Dma { calls: calls() }), ppi: Some(Ppi { calls: calls() }) }
+    }
+
+    /// How many calls were made, and the last of each device: asked for once a trace, so that none can be left out.
+    pub fn counted(&self) -> (u64, [Option<Call>; 3]) {
+        let made = [&self.pic.as_ref().map(|d| &d.calls), &self.dma.as_ref().map(|d| &d.calls), &self.ppi.as_ref().map(|d| &d.calls)];
+        let of = |at: usize| made[at].map_or((0, None), |calls| (calls.made, calls.last));
+        (of(0).0 + of(1).0 + of(2).0, [of(0).1, of(1).1, of(2).1])
+    }
+
     pub fn pic_mut(&mut self) -> &mut Option<Pic> {
         &mut self.pic
     }
@@ -85,16 +117,16 @@ impl BusInterface {
 
     /// The calls made since they were last forgotten, device by device.
     pub fn calls(&self) -> impl Iterator<Item = Call> + '_ {
-        let pic = self.pic.iter().flat_map(|device| &device.calls);
-        let dma = self.dma.iter().flat_map(|device| &device.calls);
-        let ppi = self.ppi.iter().flat_map(|device| &device.calls);
+        let pic = self.pic.iter().flat_map(|device| &device.calls.all);
+        let dma = self.dma.iter().flat_map(|device| &device.calls.all);
+        let ppi = self.ppi.iter().flat_map(|device| &device.calls.all);
         pic.chain(dma).chain(ppi).copied()
     }
 
     pub fn forget_calls(&mut self) {
-        self.pic.iter_mut().for_each(|device| device.calls.clear());
-        self.dma.iter_mut().for_each(|device| device.calls.clear());
-        self.ppi.iter_mut().for_each(|device| device.calls.clear());
+        self.pic.iter_mut().for_each(|device| device.calls.all.clear());
+        self.dma.iter_mut().for_each(|device| device.calls.all.clear());
+        self.ppi.iter_mut().for_each(|device| device.calls.all.clear());
     }
 }
 

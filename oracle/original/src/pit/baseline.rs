@@ -68,7 +68,7 @@ impl Baseline {
         for (c, channel) in timer.channels.iter_mut().enumerate() {
             *channel = added::fresh(c, ptype);
         }
-        Self { timer, bus: BusInterface::default() }
+        Self { timer, bus: BusInterface::counting() }
     }
 
     fn write(&mut self, port: u8, byte: u8) -> Reply {
@@ -203,6 +203,7 @@ pub fn replay(trace: &[u8], out: &mut [u8]) -> Option<usize> {
         let reply = board.make(op_at(trace, index));
         line(&mut lines, index, &reply, board.timer.sys_tick_accumulator);
     }
+    std::hint::black_box(board.bus.counted());
     lines.text(b"end ").decimal(number as u32).text(b"\n");
     Some(lines.len())
 }
@@ -227,5 +228,6 @@ pub fn answers(trace: &[u8], out: &mut [u8]) -> Option<usize> {
         let reply = board.make(op_at(trace, index));
         answer(&reply, board.timer.sys_tick_accumulator, bytes);
     }
+    std::hint::black_box(board.bus.counted());
     Some(ANSWER * number)
 }
