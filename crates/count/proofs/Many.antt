@@ -1,7 +1,7 @@
 -- That many single counts, put together at once: the counting element after that many steps, the output latch that followed it, and
 -- `ticked`. The rest of the record is as it was. Assumes nothing.
 use Prim.Native.Nat.{ℕ, zero, suc}
-use mathlib.Core.Bool.{Bool, true, false, cond}
+use mathlib.Core.Bool.{Bool, true, false}
 use mathlib.Core.Path.{_≡_, refl}
 use lib.Dec.{eqb, eqb·suc-zero}
 use Rattle.numbers.specs.Times.{times}

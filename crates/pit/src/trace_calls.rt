@@ -2,7 +2,7 @@
 use crate::SHORT_ANSWER;
 use crate::SHORT_OUT;
 use crate::answering;
-use runner::Replayed;
+use runner::lending::Replayed;
 ghost use mathlib.Core.Path.{_≡_};
 ghost use Rattle.runner.specs.Lent.{replyIn, replayInto, answersInto};
 ghost use Rattle.pit.specs.Trace.{replyStatus, replyAfter, replayCalled, replayCall};

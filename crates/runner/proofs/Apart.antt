@@ -1,7 +1,7 @@
 -- What a replay into lent bytes comes to is known by its number or its length. Assumes nothing.
 use Prim.Native.Nat.{ℕ}
 use mathlib.Core.Bool.{false, cond}
-use mathlib.Core.Path.{_≡_, refl, ap, _∙_}
+use mathlib.Core.Path.{_≡_, refl}
 use lib.Dec.{ltb}
 use Rattle.refusal.specs.Reply.{Reply, refused, accepted}
 use Rattle.refusal.specs.declared.Refusal.{Refusal}
@@ -9,8 +9,8 @@ use Rattle.refusal.specs.declared.Refusal.the-variants.{PortUnknown, ChannelAbo
 use Rattle.refusal.specs.Refusal.{refusalNumber}
 use Rattle.refusal.proofs.Apart.{apart-by}
 use Rattle.refusal.proofs.Numbered.{refusalNumbered, numbered-back}
-use Rattle.runner.specs.declared.Replayed.{Replayed}
-use Rattle.runner.specs.declared.Replayed.the-variants.{Written, Refused, Short}
+use Rattle.runner.specs.declared.lending.Replayed.{Replayed}
+use Rattle.runner.specs.declared.lending.Replayed.the-variants.{Written, Refused, Short}
 use Rattle.runner.specs.Lent.{replyIn}
 
 -- document 01's numbers lie below those of the byte form

@@ -1,17 +1,16 @@
 -- What is written into lent bytes of any length: all of it where there is room for the trace, and nothing where there is not. Assumes nothing.
 use Prim.Native.Nat.{ℕ, _+_, _*_, _<_, _≤_}
 use mathlib.Core.List.{List}
-use mathlib.Core.Path.{_≡_, sym, ap, _∙_}
+use mathlib.Core.Path.{_≡_, ap, _∙_}
 use lib.ListN.{length}
 use borrow.Author.Tests.{lt-ltb, le-ltb}
-use Rattle.refusal.specs.Reply.{refused, accepted}
 use Rattle.line.specs.Line.{lineRoom}
 use Rattle.trace.specs.declared.head.Head.{Head}
-use Rattle.trace.specs.Judgement.{Judgement, refusedAt}
-use Rattle.trace.specs.Trace.{Trace, operationsFrom, readTrace}
+use Rattle.trace.specs.Judgement.{refusedAt}
+use Rattle.trace.specs.Trace.{operationsFrom, readTrace}
 use Rattle.trace.specs.Answer.{operationsOf}
 use Rattle.trace.proofs.Sound.{SoundAs}
-use Rattle.runner.specs.declared.Replayed.the-variants.{Written, Short}
+use Rattle.runner.specs.declared.lending.Replayed.the-variants.{Written, Short}
 use Rattle.runner.specs.Printed.{printed, Prints}
 use Rattle.runner.specs.Lent.{inRoom, roomFor, replayInto, replayed}
 use Rattle.runner.proofs.Turns.{as-many-as}

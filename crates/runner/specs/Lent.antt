@@ -11,8 +11,8 @@ use Rattle.trace.specs.Trace.{Trace, readTrace}
 use Rattle.board.specs.Making.{fresh}
 use Rattle.line.specs.Line.{lineRoom}
 use Rattle.runner.specs.declared.Form.the-variants.{Answers}
-use Rattle.runner.specs.declared.Replayed.{Replayed}
-use Rattle.runner.specs.declared.Replayed.the-variants.{Written, Refused, Short}
+use Rattle.runner.specs.declared.lending.Replayed.{Replayed}
+use Rattle.runner.specs.declared.lending.Replayed.the-variants.{Written, Refused, Short}
 use Rattle.runner.specs.Printed.{roomOf, toldFrom, printed}
 
 -- how many bytes were written or the number of a refusal, and the lent bytes

@@ -1,14 +1,16 @@
 // The whole replay of a trace: from its bytes to the bytes that are printed, or to its answers in bytes. Nothing is put before the whole trace is judged.
 //
 // `tell` is the runner: one loop that owns the board and changes it where it stands. No function that the loop calls takes or hands back a board, and each arm ends
-// in its own `say`: arms that meet would have the board moved.
+// in its own `say`: arms that meet would have the board moved. answering.rt has an answer in bytes, lending.rt replays into lent bytes of any length.
 mod answering;
+pub mod lending;
 
 use board::Answer;
 use board::Board;
+pub use lending::answers_into;
+pub use lending::replay_into;
 use line::Line;
 use line::sentence::Sentence;
-use refusal::Refusal;
 use time::SystemTicks;
 use trace::head::Head;
 use trace::head::Judged;
@@ -19,14 +21,18 @@ ghost use Prim.Native.Nat.{_+_, _*_, _≤_};
 ghost use lib.ListN.{length, take};
 ghost use Rattle.board.specs.Answer.{replyOf};
 ghost use Rattle.line.specs.Line.{lineRoom};
-ghost use Rattle.line.specs.Lines.{operationLine};
 ghost use Rattle.text.specs.Put.{put, answered};
 ghost use Rattle.trace.specs.Judgement.{sound};
 ghost use Rattle.trace.specs.Trace.{operationsFrom, traceOf};
 ghost use Rattle.trace.specs.Answer.{soundness, operationsOf};
 ghost use Rattle.runner.specs.Printed.{said, roomOf, toldFrom, printedTrace, printed, Prints};
-ghost use Rattle.runner.specs.Lent.{replayed, replayInto, answersInto};
 ghost use Rattle.io.specs.Counts.{Counts};
+
+// What is said of each operation: its line, or its answer in 12 bytes.
+pub enum Form {
+    Lines,
+    Answers,
+}
 
 fn put_line(out: &mut [u8], place: usize, line: Line) -> usize
     requires { ⌜ line .len ≤ length (line .bytes) ⌝ }
@@ -35,12 +41,6 @@ fn put_line(out: &mut [u8], place: usize, line: Line) -> usize
     let bytes = line.bytes;
     let len = line.len;
     text::put(out, place, &bytes[..len])
-}
-
-// What is said of each operation: its line, or its answer in 12 bytes.
-pub enum Form {
-    Lines,
-    Answers,
 }
 
 // What is said of an operation, put behind what was said before.
@@ -232,60 +232,5 @@ pub fn replay(trace: &[u8], out: &mut [u8; 196704]) -> usize
             put_line(out, 0, line)
         }
         Judged::Sound(head) => replay_sound(trace, head, out),
-    }
-}
-
-// What comes of a replay into lent bytes: how many bytes were written to their front, the trace's refusal, or too few bytes lent. But for the first
-// no lent byte changes.
-pub enum Replayed {
-    Written(usize),
-    Refused(Refusal),
-    Short,
-}
-
-// What is printed, where the lent bytes have room for every line that the trace can have: 48 bytes for the head, for each operation and for the end, or 48
-// where the trace is refused.
-pub fn replay_into(trace: &[u8], out: &mut [u8]) -> Replayed
-    ensures { λ r. ⌜ replayed r (now (out .exit)) ≡ replayInto (now (trace .entry)) (now (out .entry)) ⌝ }
-{
-    let judged = trace::judge(trace);
-    match judged {
-        Judged::Refused(fault) => {
-            if out.len() < 48 {
-                return Replayed::Short;
-            }
-            let refusal = fault.refusal;
-            let line = line::line_of(Sentence::Fault(refusal, fault.place));
-            Replayed::Written(put_line(out, 0, line))
-        }
-        Judged::Sound(head) => {
-            if out.len() < 48 * (head.operations as usize + 2) {
-                return Replayed::Short;
-            }
-            Replayed::Written(replay_sound(trace, head, out))
-        }
-    }
-}
-
-// The answers of the operations, 12 bytes each, where the lent bytes have room for them.
-pub fn answers_into(trace: &[u8], out: &mut [u8]) -> Replayed
-    ensures { λ r. ⌜ replayed r (now (out .exit)) ≡ answersInto (now (trace .entry)) (now (out .entry)) ⌝ }
-{
-    let judged = trace::judge(trace);
-    match judged {
-        Judged::Refused(fault) => {
-            let refusal = fault.refusal;
-            Replayed::Refused(refusal)
-        }
-        Judged::Sound(head) => {
-            let number = head.operations;
-            if out.len() < 12 * (number as usize) {
-                return Replayed::Short;
-            }
-            let model = head.model;
-            let made = Board::new(model, head.divisor);
-            let board = made.board;
-            Replayed::Written(tell(Form::Answers, trace, board, 0, number, out, 0))
-        }
     }
 }

@@ -1,8 +1,6 @@
 -- `turn::raising::raise` meets its contract. Assumes nothing.
 use mathlib.Core.Path.{ap, sym, _∙_}
-use denote.Ref.{now}
 use borrow.Author.Needs.{needs}
-use Rattle.refusal.specs.Refusal.{refusalNumber}
 use Rattle.event.specs.Event.{Placing, placeEvent, placing}
 use Rattle.turn.specs.Asked.{lent}
 use Rattle.turn.specs.Turn.{settledOn}

@@ -1,4 +1,4 @@
--- `runner::replay_into` meets its contract. Assumes nothing.
+-- `runner::lending::replay_into` meets its contract. Assumes nothing.
 use mathlib.Core.Path.{sym, ap, _∙_}
 use native.Mathlib.Omega.{arith}
 use denote.Ref.{now}
@@ -12,8 +12,8 @@ use Rattle.trace.proofs.Sound.{judged-sound, judged-refused}
 use Rattle.runner.specs.Printed.{printed}
 use Rattle.runner.proofs.Whole.{line-put, prints}
 use Rattle.runner.proofs.Lent.{room-refused, room-sound, too-short, written}
-use Rattle.runner.proofs.replay_into.Statement.{statement}
-use Rattle.runner.proofs.replay_into.Tie as tie
+use Rattle.runner.proofs.lending.replay_into.Statement.{statement}
+use Rattle.runner.proofs.lending.replay_into.Tie as tie
 
 returns : tie.Need-returns
 returns c =

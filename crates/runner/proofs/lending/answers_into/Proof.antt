@@ -1,4 +1,4 @@
--- `runner::answers_into` meets its contract. Assumes nothing.
+-- `runner::lending::answers_into` meets its contract. Assumes nothing.
 use mathlib.Core.Path.{refl, sym, ap, _∙_}
 use native.Mathlib.Omega.{arith}
 use denote.Ref.{now}
@@ -14,8 +14,8 @@ use Rattle.runner.specs.Printed.{toldFrom}
 use Rattle.runner.specs.Lent.{answersOf, answersInto}
 use Rattle.runner.proofs.Whole.{new-board, prints}
 use Rattle.runner.proofs.Lent.{no-room, in-room, operations-are}
-use Rattle.runner.proofs.answers_into.Statement.{statement}
-use Rattle.runner.proofs.answers_into.Tie as tie
+use Rattle.runner.proofs.lending.answers_into.Statement.{statement}
+use Rattle.runner.proofs.lending.answers_into.Tie as tie
 
 returns : tie.Need-returns
 unfolding answersInto

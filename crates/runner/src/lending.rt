@@ -1,0 +1,66 @@
+// A replay into lent bytes of any length.
+use crate::Form;
+use crate::put_line;
+use crate::replay_sound;
+use crate::tell;
+use board::Board;
+use line::sentence::Sentence;
+use refusal::Refusal;
+use trace::head::Judged;
+ghost use mathlib.Core.Path.{_≡_};
+ghost use Rattle.runner.specs.Lent.{replayed, replayInto, answersInto};
+
+// What comes of a replay into lent bytes: how many bytes were written to their front, the trace's refusal, or too few bytes lent. But for the first
+// no lent byte changes.
+pub enum Replayed {
+    Written(usize),
+    Refused(Refusal),
+    Short,
+}
+
+// What is printed, where the lent bytes have room for every line that the trace can have: 48 bytes for the head, for each operation and for the end, or 48
+// where the trace is refused.
+pub fn replay_into(trace: &[u8], out: &mut [u8]) -> Replayed
+    ensures { λ r. ⌜ replayed r (now (out .exit)) ≡ replayInto (now (trace .entry)) (now (out .entry)) ⌝ }
+{
+    let judged = trace::judge(trace);
+    match judged {
+        Judged::Refused(fault) => {
+            if out.len() < 48 {
+                return Replayed::Short;
+            }
+            let refusal = fault.refusal;
+            let line = line::line_of(Sentence::Fault(refusal, fault.place));
+            Replayed::Written(put_line(out, 0, line))
+        }
+        Judged::Sound(head) => {
+            if out.len() < 48 * (head.operations as usize + 2) {
+                return Replayed::Short;
+            }
+            Replayed::Written(replay_sound(trace, head, out))
+        }
+    }
+}
+
+// The answers of the operations, 12 bytes each, where the lent bytes have room for them.
+pub fn answers_into(trace: &[u8], out: &mut [u8]) -> Replayed
+    ensures { λ r. ⌜ replayed r (now (out .exit)) ≡ answersInto (now (trace .entry)) (now (out .entry)) ⌝ }
+{
+    let judged = trace::judge(trace);
+    match judged {
+        Judged::Refused(fault) => {
+            let refusal = fault.refusal;
+            Replayed::Refused(refusal)
+        }
+        Judged::Sound(head) => {
+            let number = head.operations;
+            if out.len() < 12 * (number as usize) {
+                return Replayed::Short;
+            }
+            let model = head.model;
+            let made = Board::new(model, head.divisor);
+            let board = made.board;
+            Replayed::Written(tell(Form::Answers, trace, board, 0, number, out, 0))
+        }
+    }
+}
