@@ -1,0 +1,104 @@
+-- How many next ticks are all alike, and what that many come to: docs/TICK.md, "Many ticks at once". What follows says nothing new of the tick and
+-- need not be believed: `skip-is-ticks` (proofs/Skipped.antt) finds that many ticks to be the same.
+use Prim.Native.Nat.{ℕ, _-_, _*_, _/_, _%_}
+use mathlib.Core.Bool.{Bool, true, false, cond, _&&_}
+use lib.Dec.{eqb}
+use Rattle.numbers.specs.Digits.{weight}
+use Rattle.numbers.specs.Times.{times}
+use Rattle.channel.specs.declared.Channel.{Channel}
+use Rattle.channel.specs.declared.ChannelMode.{ChannelMode}
+use Rattle.channel.specs.declared.ChannelState.{ChannelState}
+use Rattle.channel.specs.declared.ChannelState.the-variants.{WaitingForReload, WaitingForGate, DeferLoadCycle, WaitingForLoadCycle, WaitingForLoadTrigger, Counting}
+use Rattle.channel.specs.Modes.{byMode}
+use Rattle.channel.specs.Shared.{isCounting}
+use Rattle.count.specs.Count.{count}
+use Rattle.tick.specs.declared.due.Kind.{Kind}
+use Rattle.tick.specs.declared.due.Kind.the-variants.{Idle, Deferred, Load, Reload, Count}
+use Rattle.tick.specs.Due.{due}
+use Rattle.tick.specs.Taken.{takes}
+use Rattle.tick.specs.Tick.{agedBy, neverLoaded}
+
+-- the counts of a whole round, from 0 to 0
+abbrev pub round : Bool → ℕ
+round bcd = cond bcd 10000 65536
+
+-- the counts to zero, "the element, in BCD its weight, and for 0 the whole round"
+abbrev pub countsToZero : Bool → ℕ → ℕ
+countsToZero bcd e = cond (eqb e 0) (round bcd) (cond bcd (weight e) e)
+
+unfoldable pub toZero : Channel → ℕ
+toZero c = countsToZero (c .control .«bcd_mode») (c .counter .«counting_element»)
+
+-- "no end": as many as one call may ask for
+abbrev pub noEnd : ℕ
+noEnd = 65536
+
+-- "output high, or mode 0, 1, 3": a tick that neither loads nor counts leaves the output where it is
+abbrev pub restsAt : ChannelMode → Bool → Bool
+restsAt m level = byMode true true level true level level m
+
+abbrev pub waitsForCycle : ChannelState → Bool
+waitsForCycle WaitingForReload = false
+waitsForCycle WaitingForGate = false
+waitsForCycle DeferLoadCycle = false
+waitsForCycle WaitingForLoadCycle = true
+waitsForCycle WaitingForLoadTrigger = false
+waitsForCycle (Counting f) = false
+
+-- "load that meets a count of 1", and has met it before: there is nothing left to change
+abbrev pub metAlready : Channel → Bool
+metAlready c =
+    neverLoaded c && (waitsForCycle (c .counter .«channel_state») && (c .pins .output && eqb (c .counter .«cycles_in_state») 0))
+
+-- modes 0, 1: "output high", "output low"
+abbrev pub untilHigh : Bool → ℕ → ℕ
+untilHigh level zeroIn = cond level noEnd (zeroIn - 1)
+
+-- mode 2: "output high"
+abbrev pub untilLow : Bool → ℕ → ℕ
+untilLow level zeroIn = cond level (zeroIn - 2) 0
+
+-- mode 3: "element even"
+abbrev pub untilHalf : ℕ → ℕ → ℕ
+untilHalf e zeroIn = cond (eqb (e % 2) 0) (zeroIn / 2 - 1) 0
+
+-- modes 4, 5: "output high, armed", "output high, not armed"
+abbrev pub untilStrobe : Bool → Bool → ℕ → ℕ
+untilStrobe level armed zeroIn = cond level (cond armed (zeroIn - 1) noEnd) 0
+
+-- a channel that counts, by its mode; the element is zeroIn counts from zero
+abbrev pub quietFor : ChannelMode → Bool → Bool → ℕ → ℕ → ℕ
+quietFor m level armed e zeroIn =
+    byMode (untilHigh level zeroIn) (untilHigh level zeroIn) (untilLow level zeroIn) (untilHalf e zeroIn) (untilStrobe level armed zeroIn)
+    (untilStrobe level armed zeroIn) m
+
+-- a count that comes from `WaitingForGate` enters a state
+abbrev pub quietCounting : Channel → ℕ
+quietCounting c =
+    cond (isCounting (c .counter .«channel_state»))
+    (quietFor (c .control .mode) (c .pins .output) (c .load .armed) (c .counter .«counting_element») (toZero c)) 0
+
+abbrev pub quietIf : Bool → ℕ
+quietIf alike = cond alike noEnd 0
+
+-- how many next ticks are all alike, "with no event, no load, no state entered"
+abbrev pub quietBy : Kind → Channel → ℕ
+quietBy Idle c = quietIf (restsAt (c .control .mode) (c .pins .output))
+quietBy Deferred c = 0
+quietBy Load c = quietIf (metAlready c)
+quietBy Reload c = 0
+quietBy Count c = quietCounting c
+
+unfoldable pub quiet : Channel → ℕ
+quiet c = quietBy (due c) c
+
+-- the channel "after k ticks", for k at most `quiet`
+abbrev pub skipBy : Kind → ℕ → Channel → Channel
+skipBy Idle ticks c = agedBy ticks c
+skipBy Deferred ticks c = c
+skipBy Load ticks c = c
+skipBy Reload ticks c = c
+skipBy Count ticks c = agedBy ticks (times (ticks * takes c) count c)
+
+unfoldable pub skip : ℕ → Channel → Channel
+skip ticks c = skipBy (due c) ticks c

@@ -1,0 +1,246 @@
+// How many next ticks are all alike, and what that many come to at once: docs/TICK.md, "Many ticks at once".
+use channel::Channel;
+use channel::ChannelMode;
+use channel::ChannelState;
+use tick::aged_by;
+use tick::due::Kind;
+use tick::due::due;
+use tick::never_loaded;
+use tick::takes;
+ghost use Prim.Native.Nat.{_-_, _*_, _≤_};
+ghost use mathlib.Core.Path.{_≡_};
+ghost use Rattle.numbers.specs.Digits.{weight};
+ghost use Rattle.numbers.specs.Times.{times};
+ghost use Rattle.count.specs.Count.{count};
+ghost use Rattle.tick.specs.Taken.{takes};
+ghost use Rattle.tick.specs.Tick.{agedBy};
+ghost use Rattle.quiet.specs.Quiet.{round, toZero, restsAt, waitsForCycle, metAlready, untilHigh, untilLow, untilHalf, untilStrobe, quietFor, quietCounting, quietIf, quiet, skip};
+
+fn wide(number: u16) -> u32
+    ensures { λ r. ⌜ r ≡ number ⌝ }
+{
+    number as u32
+}
+
+// What is left of a number, or nothing.
+fn less(number: u32, by: u32) -> u32
+    ensures { λ r. ⌜ r ≡ number - by ⌝ }
+{
+    if number < by {
+        return 0;
+    }
+    number - by
+}
+
+// The counts of a whole round.
+fn round(bcd: bool) -> u32
+    ensures { λ r. ⌜ r ≡ round bcd ⌝ }
+{
+    if bcd {
+        return 10000;
+    }
+    65536
+}
+
+fn weight(element: u16) -> u16
+    ensures { λ r. ⌜ r ≡ weight element ⌝ }
+{
+    let thousands = element / 16 / 16 / 16 % 16;
+    let hundreds = element / 16 / 16 % 16;
+    let tens = element / 16 % 16;
+    let ones = element % 16;
+    1000 * thousands + 100 * hundreds + 10 * tens + ones
+}
+
+fn to_zero(c: Channel) -> u32
+    ensures { λ r. ⌜ r ≡ toZero c ⌝ }
+{
+    let w = c.control;
+    let k = c.counter;
+    let element = k.counting_element;
+    if element == 0 {
+        return round(w.bcd_mode);
+    }
+    if w.bcd_mode {
+        return wide(weight(element));
+    }
+    wide(element)
+}
+
+fn rests_at(mode: ChannelMode, level: bool) -> bool
+    ensures { λ r. ⌜ r ≡ restsAt mode level ⌝ }
+{
+    match mode {
+        ChannelMode::InterruptOnTerminalCount => true,
+        ChannelMode::HardwareRetriggerableOneShot => true,
+        ChannelMode::RateGenerator => level,
+        ChannelMode::SquareWaveGenerator => true,
+        ChannelMode::SoftwareTriggeredStrobe => level,
+        ChannelMode::HardwareTriggeredStrobe => level,
+    }
+}
+
+fn waits_for_cycle(state: ChannelState) -> bool
+    ensures { λ r. ⌜ r ≡ waitsForCycle state ⌝ }
+{
+    match state {
+        ChannelState::WaitingForReload => false,
+        ChannelState::WaitingForGate => false,
+        ChannelState::DeferLoadCycle => false,
+        ChannelState::WaitingForLoadCycle => true,
+        ChannelState::WaitingForLoadTrigger => false,
+        ChannelState::Counting(_) => false,
+    }
+}
+
+// A count of 1 that was met before: the next tick leaves the record as it is.
+fn met_already(c: Channel) -> bool
+    ensures { λ r. ⌜ r ≡ metAlready c ⌝ }
+{
+    let p = c.pins;
+    let k = c.counter;
+    let state = k.channel_state;
+    if never_loaded(c) {
+        if waits_for_cycle(state) {
+            if p.output {
+                return k.cycles_in_state == 0;
+            }
+            return false;
+        }
+        return false;
+    }
+    false
+}
+
+fn until_high(level: bool, zero_in: u32) -> u32
+    ensures { λ r. ⌜ r ≡ untilHigh level «zero_in» ⌝ }
+{
+    if level {
+        return 65536;
+    }
+    less(zero_in, 1)
+}
+
+fn until_strobe(level: bool, armed: bool, zero_in: u32) -> u32
+    ensures { λ r. ⌜ r ≡ untilStrobe level armed «zero_in» ⌝ }
+{
+    if level {
+        if armed {
+            return less(zero_in, 1);
+        }
+        return 65536;
+    }
+    0
+}
+
+fn until_low(level: bool, zero_in: u32) -> u32
+    ensures { λ r. ⌜ r ≡ untilLow level «zero_in» ⌝ }
+{
+    if level {
+        return less(zero_in, 2);
+    }
+    0
+}
+
+// By twos, so from an even element only.
+fn until_half(element: u16, zero_in: u32) -> u32
+    ensures { λ r. ⌜ r ≡ untilHalf element «zero_in» ⌝ }
+{
+    if element % 2 == 0 {
+        return less(zero_in / 2, 1);
+    }
+    0
+}
+
+fn quiet_for(mode: ChannelMode, level: bool, armed: bool, element: u16, zero_in: u32) -> u32
+    ensures { λ r. ⌜ r ≡ quietFor mode level armed element «zero_in» ⌝ }
+{
+    match mode {
+        ChannelMode::InterruptOnTerminalCount => until_high(level, zero_in),
+        ChannelMode::HardwareRetriggerableOneShot => until_high(level, zero_in),
+        ChannelMode::RateGenerator => until_low(level, zero_in),
+        ChannelMode::SquareWaveGenerator => until_half(element, zero_in),
+        ChannelMode::SoftwareTriggeredStrobe => until_strobe(level, armed, zero_in),
+        ChannelMode::HardwareTriggeredStrobe => until_strobe(level, armed, zero_in),
+    }
+}
+
+fn quiet_counting(c: Channel) -> u32
+    ensures { λ r. ⌜ r ≡ quietCounting c ⌝ }
+{
+    let w = c.control;
+    let mode = w.mode;
+    let p = c.pins;
+    let l = c.load;
+    let k = c.counter;
+    let state = k.channel_state;
+    if state.is_counting() {
+        let zero_in = to_zero(c);
+        return quiet_for(mode, p.output, l.armed, k.counting_element, zero_in);
+    }
+    0
+}
+
+fn quiet_if(alike: bool) -> u32
+    ensures { λ r. ⌜ r ≡ quietIf alike ⌝ }
+{
+    if alike {
+        return 65536;
+    }
+    0
+}
+
+pub fn quiet(c: Channel) -> u32
+    ensures { λ r. ⌜ r ≡ quiet c ⌝ }
+{
+    let w = c.control;
+    let mode = w.mode;
+    let p = c.pins;
+    let kind = due(c);
+    match kind {
+        Kind::Idle => quiet_if(rests_at(mode, p.output)),
+        Kind::Deferred => 0,
+        Kind::Load => quiet_if(met_already(c)),
+        Kind::Reload => 0,
+        Kind::Count => quiet_counting(c),
+    }
+}
+
+// So many counts for each tick. They are made in equal parts: a product of the two numbers might not fit.
+fn counts_each(c: Channel, ticks: u32, each: u32) -> Channel
+    requires { ⌜ 1 ≤ each ⌝ }
+    requires { ⌜ each ≤ 3 ⌝ }
+    ensures { λ r. ⌜ r ≡ times (ticks * each) count c ⌝ }
+{
+    let once = count::counts(c, ticks);
+    if each == 1 {
+        return once;
+    }
+    let twice = count::counts(once, ticks);
+    if each == 2 {
+        return twice;
+    }
+    count::counts(twice, ticks)
+}
+
+fn skip_counting(c: Channel, ticks: u32) -> Channel
+    ensures { λ r. ⌜ r ≡ agedBy ticks (times (ticks * takes c) count c) ⌝ }
+{
+    let each = takes(c);
+    let after = counts_each(c, ticks, each);
+    aged_by(after, ticks)
+}
+
+// What that many ticks come to, where they are all alike.
+pub fn skip(c: Channel, ticks: u32) -> Channel
+    ensures { λ r. ⌜ r ≡ skip ticks c ⌝ }
+{
+    let kind = due(c);
+    match kind {
+        Kind::Idle => aged_by(c, ticks),
+        Kind::Deferred => c,
+        Kind::Load => c,
+        Kind::Reload => c,
+        Kind::Count => skip_counting(c, ticks),
+    }
+}

@@ -1,0 +1,18 @@
+-- What every tick of a channel leaves alone: docs/TICK.md, section 1. "It never changes mode, BCD, gate, mask, reload value, latched", nor
+-- what it does not even read.
+use mathlib.Core.Path.{_≡_}
+use mathlib.Core.Bool.{true}
+use Rattle.channel.specs.declared.Channel.{Channel}
+
+pub record TickKeeps (before after : Channel) : Type 0 where
+  pub control-kept : after .control ≡ before .control
+  pub reloading-kept : after .reloading ≡ before .reloading
+  pub gate-kept : after .pins .gate ≡ before .pins .gate
+  pub register-kept : after .load .«count_register» ≡ before .load .«count_register»
+  pub reload-kept : after .load .«reload_value» ≡ before .load .«reload_value»
+  pub load-state-kept : after .load .«load_state» ≡ before .load .«load_state»
+  pub load-type-kept : after .load .«load_type» ≡ before .load .«load_type»
+  pub latched-kept : after .latch .«count_is_latched» ≡ before .latch .«count_is_latched»
+  pub half-kept : after .latch .«read_state» ≡ before .latch .«read_state»
+  -- a held count stays, whatever the element does
+  pub held-kept : before .latch .«count_is_latched» ≡ true → after .latch ≡ before .latch

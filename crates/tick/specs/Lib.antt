@@ -1,0 +1,6 @@
+pub mod Due
+pub mod Taken
+pub mod Level
+pub mod Tick
+pub mod Loads
+pub mod Kept
