@@ -15,7 +15,7 @@ use Rattle.gate.specs.Gate.{loadsOnRise, stopsOnFall, highOnFall, waitsForReloa
 use Rattle.sheet.specs.Gate.{fallEffect, riseEffect}
 
 -- the table's three questions, mode by mode
-loads-agree : (m : ChannelMode) → loadsOnRise m ≡ riseEffect (modeNumber m) .loads
+pub loads-agree : (m : ChannelMode) → loadsOnRise m ≡ riseEffect (modeNumber m) .loads
 loads-agree = every-mode (λ (m : ChannelMode). loadsOnRise m ≡ riseEffect (modeNumber m) .loads) refl refl refl refl refl refl
 
 raises-agree : (m : ChannelMode) → highOnFall m ≡ fallEffect (modeNumber m) .raises

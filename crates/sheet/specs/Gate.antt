@@ -1,27 +1,31 @@
--- What an edge of the gate does at once, and whether the next tick loads: lines G0 to G5 of docs/SHEETS.md. What the table says of later ticks
--- (its column "high", and G1's output on the next tick) comes with the tick.
+-- What an edge of the gate does at once and by the next tick, and what its level does to the ticks: lines G0 to G5 of docs/SHEETS.md.
 use Prim.Native.Nat.{ℕ}
 use mathlib.Core.Bool.{Bool, true, false}
 use mathlib.Core.List.{[], _∷_}
 use lib.ListN.{getD}
 
--- the words of the table: "stops counting", "output high at once", "load on the next tick"
+-- the words of the table: "stops counting", "output high at once", "load on the next tick", "output low on the next tick"
 pub record Effect : Type 0 where
   pub stops : Bool
   pub raises : Bool
   pub loads : Bool
+  pub lowers : Bool
 
 abbrev pub nothing : Effect
-nothing = record { stops = false; raises = false; loads = false }
+nothing = record { stops = false; raises = false; loads = false; lowers = false }
 
 abbrev pub stopsOnly : Effect
-stopsOnly = record { stops = true; raises = false; loads = false }
+stopsOnly = record { stops = true; raises = false; loads = false; lowers = false }
 
 abbrev pub stopsAndRaises : Effect
-stopsAndRaises = record { stops = true; raises = true; loads = false }
+stopsAndRaises = record { stops = true; raises = true; loads = false; lowers = false }
 
 abbrev pub loadsNext : Effect
-loadsNext = record { stops = false; raises = false; loads = true }
+loadsNext = record { stops = false; raises = false; loads = true; lowers = false }
+
+-- G1: "load and output low on the next tick"
+abbrev pub loadsLow : Effect
+loadsLow = record { stops = false; raises = false; loads = true; lowers = true }
 
 -- the column "low or going low", G0 to G5
 abbrev pub fallEffect : ℕ → Effect
@@ -29,4 +33,8 @@ fallEffect mode = getD (stopsOnly ∷ nothing ∷ stopsAndRaises ∷ stopsAndRai
 
 -- the column "rising", G0 to G5
 abbrev pub riseEffect : ℕ → Effect
-riseEffect mode = getD (nothing ∷ loadsNext ∷ loadsNext ∷ loadsNext ∷ nothing ∷ loadsNext ∷ []) mode nothing
+riseEffect mode = getD (nothing ∷ loadsLow ∷ loadsNext ∷ loadsNext ∷ nothing ∷ loadsNext ∷ []) mode nothing
+
+-- the column "high", G0 to G5: counting, or nothing
+abbrev pub highCounts : ℕ → Bool
+highCounts mode = getD (true ∷ false ∷ true ∷ true ∷ true ∷ false ∷ []) mode false

@@ -4,3 +4,4 @@ pub mod Reading
 pub mod Loading
 pub mod Output
 pub mod Gate
+pub mod Ticking

@@ -1,0 +1,133 @@
+-- M2: "Period N": from N down to 1, and again; the output is low for the one tick at which the element is 1. Assumes nothing.
+use Prim.Native.Nat.{ℕ, zero, suc, _-_, _%_, _<_, _≤_}
+use mathlib.Core.Bool.{Bool, true, false, not}
+use mathlib.Core.Path.{_≡_, refl, sym, ap, _∙_}
+use native.Mathlib.Nat.{zero-mod, sub-zero, suc-mod, mod-lt, mod-eq-of-lt, mod-self}
+use native.Mathlib.Omega.{arith}
+use lib.Dec.{eqb}
+use borrow.Author.Tests.{eq-eqb, ne-eqb, eqb-true, eqb-false}
+use Rattle.channel.specs.declared.Channel.{Channel}
+use Rattle.channel.specs.declared.ChannelMode.{ChannelMode}
+use Rattle.channel.specs.declared.ChannelMode.the-variants.{RateGenerator}
+use Rattle.channel.specs.declared.ChannelState.the-variants.{Counting}
+use Rattle.channel.specs.declared.PitType.{PitType}
+use Rattle.channel.specs.declared.ReloadFlag.the-variants.{Normal}
+use Rattle.channel.specs.Modes.{modeNumber}
+use Rattle.count.specs.Count.{count}
+use Rattle.sheet.specs.Ticking.{values, held, rateValue, valueAfter, outputAfter}
+use Rattle.tick.specs.declared.due.Kind.the-variants.{Reload}
+use Rattle.tick.specs.Due.{runs, reloadsFrom, due}
+use Rattle.tick.specs.Tick.{neverLoaded, tick}
+use Rattle.agreement.specs.Gating.{goesOn}
+use Rattle.agreement.specs.Ticking.{sheetChip, LoadsNext, ticksAfter, AsTheSheetSays}
+use Rattle.agreement.proofs.HeldCounts.{held-minus, counts-round}
+use Rattle.agreement.proofs.HeldMarks.{held-one}
+use Rattle.agreement.proofs.TickLoads.{LoadedAt, tick-loads, tick-reloads, loads-written}
+use Rattle.agreement.proofs.TickCounts.{CountedTo, due-count, due-reload, tick-counts}
+use Rattle.agreement.proofs.AfterLoad.{radix-after, mode-after, reload-after, mask-after, runs-after}
+
+-- the place in the period, one tick on: the next one, or the first after the last
+last-place : (n j : ℕ) → 2 ≤ n → rateValue n j ≡ 1 → rateValue n (suc j) ≡ n
+last-place n j least one =
+    let b : j % n < n = mod-lt j (omega arith) in
+    let e : suc (j % n) ≡ n = omega arith in
+    rw (suc-mod j n, e, mod-self n) (sub-zero n)
+
+next-place : (n j : ℕ) → 2 ≤ n → (rateValue n j ≡ 1 → ⊥) → rateValue n (suc j) ≡ rateValue n j - 1
+next-place n j least other =
+    let b : j % n < n = mod-lt j (omega arith) in
+    let h : suc (j % n) < n = omega arith in
+    rw (suc-mod j n, mod-eq-of-lt h) (omega arith)
+
+-- a channel of mode 2 that counts and has the value v
+pub record RateAt (bcd : Bool) (v : ℕ) (c : Channel) : Type 0 where
+  pub rate-value : c .counter .«counting_element» ≡ held bcd v
+  pub rate-level : c .pins .output ≡ not (eqb v 1)
+  pub still-counting : c .counter .«channel_state» ≡ Counting Normal
+
+-- what a load of n leaves, at a level that is high
+rate-loaded : (bcd : Bool) (n : ℕ) (level : Bool) (c d : Channel) → 2 ≤ n → LoadedAt level c d → level ≡ true
+    → c .load .«reload_value» ≡ held bcd n → c .reloading .«load_mask» ≡ 0xFFFF → RateAt bcd n d
+rate-loaded bcd n level c d least moved high written whole =
+    record {
+      rate-value = moved .has-value ∙ loads-written c bcd n written whole;
+      rate-level = moved .has-level ∙ high ∙ sym (ap not (ne-eqb n 1 (λ q. omega arith)));
+      still-counting = moved .is-counting;
+    }
+
+-- a count of 2 or more may be loaded
+rate-may : (bcd : Bool) (n : ℕ) (c : Channel) → 2 ≤ n → n ≤ values bcd → c .control .mode ≡ RateGenerator → c .load .«reload_value» ≡ held bcd n
+    → neverLoaded c ≡ false
+rate-may bcd n c least most mode written = rw (mode, written) (held-one bcd n most ∙ ne-eqb n 1 (λ q. omega arith))
+
+-- a tick from the value v
+module _ (model : PitType) (bcd : Bool) (v : ℕ) (c : Channel) (mode : c .control .mode ≡ RateGenerator) (running : runs c ≡ true)
+    (now : RateAt bcd v c) (most : v ≤ values bcd) where
+  goes : goesOn (c .counter .«channel_state») ≡ true
+  goes = ap goesOn (now .still-counting)
+
+  at-mark : reloadsFrom (c .control .mode) (c .counter .«counting_element») ≡ eqb v 1
+  at-mark = rw (mode, now .rate-value) (held-one bcd v most)
+
+  rate-reloads : (n : ℕ) → 2 ≤ n → n ≤ values bcd → c .load .«reload_value» ≡ held bcd n → c .reloading .«load_mask» ≡ 0xFFFF
+      → v ≡ 1 → RateAt bcd n (tick model c)
+  rate-reloads n least at-most written whole one =
+      let is-due : due c ≡ Reload = due-reload c goes running (at-mark ∙ eq-eqb v 1 one) in
+      let may : neverLoaded c ≡ false = rate-may bcd n c least at-most mode written in
+      rate-loaded bcd n _ c (tick model c) least (tick-reloads c may model is-due) (rw mode refl) written whole
+
+  -- outside mode 3 a tick takes one and ends no half
+  rate-step : (v ≡ 1 → ⊥) → CountedTo (count c .counter .«counting_element») c (tick model c)
+  rate-step other = tick-counts c goes model (due-count c goes running (at-mark ∙ ne-eqb v 1 other)) (rw mode refl) (rw mode refl)
+
+  rate-counts : c .control .«bcd_mode» ≡ bcd → 1 ≤ v → (v ≡ 1 → ⊥) → RateAt bcd (v - 1) (tick model c)
+  rate-counts radix least other =
+      let e : count c .counter .«counting_element» ≡ held bcd (v - 1) = counts-round bcd v 1 c radix (now .rate-value) ∙ held-minus bcd v 1 least in
+      let step : CountedTo (held bcd (v - 1)) c (tick model c) = rw e at (rate-step other) in
+      record {
+        rate-value = step .has-value;
+        rate-level = step .has-level ∙ rw mode (ap not (held-one bcd (v - 1) (omega arith)));
+        still-counting = step .is-counting;
+      }
+
+module _ (model : PitType) (c : Channel) (n : ℕ) (next : LoadsNext model c n) (mode : c .control .mode ≡ RateGenerator) where
+  least : 2 ≤ n
+  least = rw mode at (next .at-least)
+
+  whole : c .reloading .«load_mask» ≡ 0xFFFF
+  whole = rw mode at (next .mask)
+
+  rate-first : RateAt (c .control .«bcd_mode») n (tick model c)
+  rate-first =
+      rate-loaded (c .control .«bcd_mode») n _ c (tick model c) least
+      (tick-loads c (rate-may (c .control .«bcd_mode») n c least (next .at-most) mode (next .written)) model (next .load-due))
+      (rw mode refl)
+      (next .written)
+      whole
+
+  rate-next : (j : ℕ) (one : Bool) → eqb (rateValue n j) 1 ≡ one → RateAt (c .control .«bcd_mode») (rateValue n j) (ticksAfter model c j)
+      → RateAt (c .control .«bcd_mode») (rateValue n (suc j)) (ticksAfter model c (suc j))
+  rate-next j true one now =
+      rw (last-place n j least (eqb-true _ 1 one))
+      (rate-reloads model (c .control .«bcd_mode») (rateValue n j) (ticksAfter model c j)
+      (mode-after model c j ∙ mode) (runs-after model c j ∙ next .running) now (omega (arith, next .at-most))
+      n least (next .at-most) (reload-after model c j ∙ next .written) (mask-after model c j ∙ whole) (eqb-true _ 1 one))
+  rate-next j false other now =
+      let b : j % n < n = mod-lt j (omega (arith, least)) in
+      rw (next-place n j least (eqb-false _ 1 other))
+      (rate-counts model (c .control .«bcd_mode») (rateValue n j) (ticksAfter model c j)
+      (mode-after model c j ∙ mode) (runs-after model c j ∙ next .running) now (omega (arith, next .at-most))
+      (radix-after model c j) (omega arith) (eqb-false _ 1 other))
+
+  rate-at : (j : ℕ) → RateAt (c .control .«bcd_mode») (rateValue n j) (ticksAfter model c j)
+  rate-at zero = rw (zero-mod n, sub-zero n) rate-first
+  rate-at (suc j) = rate-next j (eqb (rateValue n j) 1) refl (rate-at j)
+
+  pub rate-agrees : (j : ℕ) → AsTheSheetSays model c n j
+  rate-agrees j =
+      record {
+        value-agrees =
+            rate-at j .rate-value
+            ∙ ap (λ (m : ChannelMode). held (c .control .«bcd_mode») (valueAfter (sheetChip model) (c .control .«bcd_mode») (modeNumber m) n j)) (sym mode);
+        output-agrees = rate-at j .rate-level ∙ ap (λ (m : ChannelMode). outputAfter (modeNumber m) n j) (sym mode);
+      }

@@ -1,0 +1,43 @@
+-- Demand 2 for ticks: what the sheets fix of a counter that runs, and the tick of the record.
+use Prim.Native.Nat.{ℕ, _≤_}
+use mathlib.Core.Bool.{true}
+use mathlib.Core.Path.{_≡_}
+use Rattle.numbers.specs.Times.{times}
+use Rattle.channel.specs.declared.Channel.{Channel}
+use Rattle.channel.specs.declared.PitType.{PitType}
+use Rattle.channel.specs.declared.PitType.the-variants.{Model8253, Model8254}
+use Rattle.channel.specs.Modes.{modeNumber}
+use Rattle.mode.specs.Mode.{loadMask}
+use Rattle.tick.specs.declared.due.Kind.the-variants.{Load}
+use Rattle.tick.specs.Due.{runs, due}
+use Rattle.tick.specs.Tick.{tick}
+use Rattle.sheet.specs.Ticking.{Chip, chip8253, chip8254, values, held, valueAfter, outputAfter, smallest}
+
+abbrev pub sheetChip : PitType → Chip
+sheetChip Model8253 = chip8253
+sheetChip Model8254 = chip8254
+
+-- a channel that runs, whose next tick loads the count n: "the load comes with the first tick after the write or the trigger". Its load mask is the one that its mode set
+-- leaves where no mode 3 of the 8254 came before (docs/DIFFERENCES.md, S9)
+pub record LoadsNext (model : PitType) (c : Channel) (n : ℕ) : Type 0 where
+  pub load-due : due c ≡ Load
+  pub running : runs c ≡ true
+  pub written : c .load .«reload_value» ≡ held (c .control .«bcd_mode») n
+  pub mask : c .reloading .«load_mask» ≡ loadMask model 0xFFFF (c .control .mode)
+  pub at-least : smallest (modeNumber (c .control .mode)) ≤ n
+  pub at-most : n ≤ values (c .control .«bcd_mode»)
+
+-- the record j ticks after that load
+abbrev pub ticksAfter : PitType → Channel → ℕ → Channel
+ticksAfter model c j = times j (tick model) (tick model c)
+
+-- "the output and the value j ticks after the load of N, for each mode, model and radix"
+pub record AsTheSheetSays (model : PitType) (c : Channel) (n j : ℕ) : Type 0 where
+  pub value-agrees :
+      ticksAfter model c j .counter .«counting_element»
+      ≡ held (c .control .«bcd_mode») (valueAfter (sheetChip model) (c .control .«bcd_mode») (modeNumber (c .control .mode)) n j)
+  pub output-agrees : ticksAfter model c j .pins .output ≡ outputAfter (modeNumber (c .control .mode)) n j
+
+-- for every count in range and any number of ticks, with nothing written and the gate running
+abbrev pub TicksAgree : Type 0
+TicksAgree = (model : PitType) (c : Channel) (n : ℕ) → LoadsNext model c n → (j : ℕ) → AsTheSheetSays model c n j
