@@ -8,8 +8,8 @@ use Rattle.refusal.proofs.Numbered.{refusalNumbered, numbered-back}
 use Rattle.board.specs.declared.Board.{Board}
 use Rattle.board.specs.declared.Answered.{Answered}
 use Rattle.board.specs.declared.Answer.{Answer}
-use Rattle.board.specs.declared.Answer.the-variants.{Refused, Done, Place, Byte, Ticks, OutputState, Count, Retriggers, Dirty}
-use Rattle.board.specs.Outcome.{Value, done, newPlace, byte, ticks, outputState, channelCount, retriggers, dirtyMarks, timerAccum, Outcome}
+use Rattle.board.specs.declared.Answer.the-variants.{Refused, Done, Place, Byte, Ticks, OutputState, Count, Retriggers, Dirty, Worked}
+use Rattle.board.specs.Outcome.{Value, done, newPlace, byte, ticks, outputState, channelCount, retriggers, dirtyMarks, timerAccum, worked, Outcome}
 use Rattle.board.specs.Answer.{replyOf, outcome}
 
 -- `get_timer_accum` answers no enum; its value is given Done here
@@ -24,6 +24,7 @@ valueAnswer (channelCount register element counting) =
 valueAnswer (retriggers answer) = Retriggers answer
 valueAnswer (dirtyMarks dirty counting ticked) = Dirty dirty counting ticked
 valueAnswer (timerAccum left) = Done
+valueAnswer (worked made p) = Worked (record { made = record { 0 = made }; place = p })
 
 abbrev answerOf : Reply Value → Answer
 answerOf (refused number) = Refused (refusalNumbered number)
@@ -39,6 +40,7 @@ answer-back (OutputState level) = refl
 answer-back (Count c) = refl
 answer-back (Retriggers answer) = refl
 answer-back (Dirty dirty counting ticked) = refl
+answer-back (Worked w) = refl
 
 pub answers-apart : (a c : Answer) → replyOf a ≡ replyOf c → a ≡ c
 answers-apart = apart-by replyOf answerOf answer-back

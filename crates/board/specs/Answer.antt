@@ -6,9 +6,9 @@ use Rattle.refusal.specs.declared.Refusal.{Refusal}
 use Rattle.refusal.specs.Refusal.{refusalNumber}
 use Rattle.board.specs.declared.Board.{Board}
 use Rattle.board.specs.declared.Answer.{Answer}
-use Rattle.board.specs.declared.Answer.the-variants.{Refused, Done, Place, Byte, Ticks, OutputState, Count, Retriggers, Dirty}
+use Rattle.board.specs.declared.Answer.the-variants.{Refused, Done, Place, Byte, Ticks, OutputState, Count, Retriggers, Dirty, Worked}
 use Rattle.board.specs.declared.Answered.{Answered}
-use Rattle.board.specs.Outcome.{Value, done, newPlace, byte, ticks, outputState, countValue, retriggers, dirtyMarks, Outcome}
+use Rattle.board.specs.Outcome.{Value, done, newPlace, byte, ticks, outputState, countValue, retriggers, dirtyMarks, worked, Outcome}
 
 abbrev pub replyOf : Answer → Reply Value
 replyOf (Refused refusal) = refused (refusalNumber refusal)
@@ -20,6 +20,7 @@ replyOf (OutputState level) = accepted (outputState level)
 replyOf (Count c) = accepted (countValue c)
 replyOf (Retriggers answer) = accepted (retriggers answer)
 replyOf (Dirty dirty counting ticked) = accepted (dirtyMarks dirty counting ticked)
+replyOf (Worked w) = accepted (worked (w .made .0) (w .place))
 
 -- an answer with the board beside it, and the lent bytes at the call's end
 abbrev pub outcome : Answered → List ℕ → Outcome

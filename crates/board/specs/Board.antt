@@ -21,15 +21,16 @@ withChannels b channels =
       remainder = b .remainder;
       warp = b .warp;
       defer = b .defer;
+      owed = b .owed;
     }
 
 -- one channel's record put at its place
 abbrev pub withChannel : Board → ℕ → Channel → Board
 withChannel b n c = withChannels b (set (b .channels) n c)
 
--- the board with another remainder, warp and defer flag
-abbrev pub withTime : Board → ℕ → ℕ → Bool → Board
-withTime b remainder warp defer =
+-- the board with another remainder, warp and defer flag, and other ticks owed
+abbrev pub withTime : Board → ℕ → ℕ → Bool → ℕ → Board
+withTime b remainder warp defer owed =
     record {
       channels = b .channels;
       model = b .model;
@@ -37,4 +38,5 @@ withTime b remainder warp defer =
       remainder = record { 0 = remainder };
       warp = record { 0 = warp };
       defer = defer;
+      owed = record { 0 = owed };
     }

@@ -2,7 +2,7 @@
 use Prim.Native.Nat.{ℕ}
 use mathlib.Core.Bool.{Bool, cond}
 use mathlib.Core.List.{List, []}
-use lib.Dec.{ltb}
+use lib.Dec.{eqb, ltb}
 use Rattle.refusal.specs.Reply.{Reply, refused, accepted}
 use Rattle.channel.specs.declared.queries.ChannelCount.{ChannelCount}
 use Rattle.board.specs.declared.Board.{Board}
@@ -24,6 +24,8 @@ pub data Value : Type 0 where
   dirtyMarks : Bool → Bool → Bool → Value
   -- the remainder
   timerAccum : ℕ → Value
+  -- ticks worked off, and the new place
+  worked : ℕ → ℕ → Value
 
 -- what `get_channel_count` answers
 abbrev pub countValue : ChannelCount → Value
@@ -46,3 +48,7 @@ accept value b = record { reply = accepted value; board = b; events = [] }
 -- Refusal 2: "channel above 2"
 abbrev pub onChannel : Board → ℕ → List ℕ → Outcome → Outcome
 onChannel b n events outcome = cond (ltb 2 n) (refuse 2 b events) outcome
+
+-- Refusal 16: "for a port write, gate, reset, catch-up or run while ticks are owed" (02, L1)
+abbrev pub unlessOwed : Board → List ℕ → Outcome → Outcome
+unlessOwed b events outcome = cond (eqb (b .owed .0) 0) outcome (refuse 16 b events)

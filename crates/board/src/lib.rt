@@ -24,12 +24,20 @@ pub struct Board {
     pub warp: SystemTicks,
     // Set by a catch-up and never cleared: a complete load that enters the waiting state waits one load cycle longer.
     pub defer: bool,
+    // Timer ticks that a run or catch-up has yielded and that have not been made yet.
+    pub owed: TimerTicks,
+}
+
+// What working ticks off comes to: how many were made, and the new place in the event bytes.
+pub struct Worked {
+    pub made: TimerTicks,
+    pub place: usize,
 }
 
 // What a call answers: a refusal, or its one other case.
 pub enum Answer {
     Refused(Refusal),
-    // Counts, load cycle, making a board.
+    // Counts, load cycle, reset, making a board.
     Done,
     // Port write and gate: the new place in the event bytes.
     Place(usize),
@@ -40,6 +48,7 @@ pub enum Answer {
     Retriggers(bool),
     // Dirty, counting, ticked.
     Dirty(bool, bool, bool),
+    Worked(Worked),
 }
 
 pub struct Answered {

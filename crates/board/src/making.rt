@@ -6,10 +6,11 @@ use channel::Channel;
 use channel::PitType;
 use refusal::Refusal;
 use time::SystemTicks;
+use time::TimerTicks;
 ghost use mathlib.Core.Path.{_≡_};
 ghost use mathlib.Core.List.{[]};
 ghost use Rattle.board.specs.Answer.{outcome};
-ghost use Rattle.board.specs.Making.{fresh, new, reset};
+ghost use Rattle.board.specs.Making.{fresh, new, restored, reset};
 
 impl Board {
     fn fresh(model: PitType, divisor: u32) -> Board
@@ -24,6 +25,7 @@ impl Board {
             remainder: SystemTicks(0),
             warp: SystemTicks(0),
             defer: false,
+            owed: TimerTicks(0),
         }
     }
 
@@ -42,8 +44,8 @@ impl Board {
     }
 
     // Nothing is lent for events: a reset raises none, even where an output changes.
-    pub fn reset(self) -> Board
-        ensures { λ r. ⌜ r ≡ reset self ⌝ }
+    fn restored(self) -> Board
+        ensures { λ r. ⌜ r ≡ restored self ⌝ }
     {
         let c0 = self.channels[0];
         let c1 = self.channels[1];
@@ -52,5 +54,20 @@ impl Board {
         let mut b = self;
         b.channels = channels;
         b
+    }
+
+    // Refusal 16.
+    pub fn reset(self) -> Answered
+        ensures { λ r. ⌜ outcome r [] ≡ reset self ⌝ }
+    {
+        let owed = self.owed;
+        if owed.0 == 0 {
+            let board = self.restored();
+            return Answered {
+                answer: Answer::Done,
+                board,
+            };
+        }
+        self.refuse(Refusal::TicksOwed)
     }
 }

@@ -1,4 +1,4 @@
--- Document 01: the port write, with refusals 1, 7, 8 in this order. "a port write itself takes no time".
+-- Document 01: the port write, with refusals 1, 16, 7, 8 in this order. "a port write itself takes no time".
 use Prim.Native.Nat.{ℕ}
 use mathlib.Core.List.{List}
 use Rattle.channel.specs.declared.ControlWord.{ControlWord}
@@ -10,7 +10,7 @@ use Rattle.mode.specs.Mode as channelMode
 use Rattle.load.specs.Write.{writeByte}
 use Rattle.board.specs.declared.Board.{Board}
 use Rattle.board.specs.Board.{channelAt}
-use Rattle.board.specs.Outcome.{Outcome, refuse}
+use Rattle.board.specs.Outcome.{Outcome, refuse, unlessOwed}
 use Rattle.ports.specs.declared.port.Port.{Port}
 use Rattle.ports.specs.declared.port.Port.the-variants as port
 use Rattle.ports.specs.Port.{portOf}
@@ -36,8 +36,8 @@ dataWrite b n byte events place = settle b n (writeByte (channelAt b n) byte (b 
 
 -- a byte to the port that its number names
 abbrev pub writeTo : Board → Port → ℕ → List ℕ → ℕ → Outcome
-writeTo b (port.Data n) byte events place = dataWrite b n byte events place
-writeTo b port.Command byte events place = controlRegisterWrite b (commandOf byte) events place
+writeTo b (port.Data n) byte events place = unlessOwed b events (dataWrite b n byte events place)
+writeTo b port.Command byte events place = unlessOwed b events (controlRegisterWrite b (commandOf byte) events place)
 writeTo b port.Unknown byte events place = refuse 1 b events
 
 -- Refusal 1: "port not 0x40 to 0x43"

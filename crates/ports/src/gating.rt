@@ -7,7 +7,7 @@ ghost use mathlib.Core.Path.{_≡_};
 ghost use Rattle.board.specs.Answer.{outcome};
 ghost use Rattle.ports.specs.Gates.{setChannelGate};
 
-// Refusals 2, 7 and 8.
+// Refusals 2, 16, 7 and 8.
 pub fn set_channel_gate(
     b: Board,
     channel: usize,
@@ -19,6 +19,10 @@ pub fn set_channel_gate(
 {
     if 2 < channel {
         return b.refuse(Refusal::ChannelAbove2);
+    }
+    let owed = b.owed;
+    if owed.0 != 0 {
+        return b.refuse(Refusal::TicksOwed);
     }
     let c = b.channels[channel];
     let gated = gate::set_gate(c, level);

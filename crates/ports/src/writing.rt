@@ -56,14 +56,25 @@ fn data_write(b: Board, n: usize, byte: u8, events: &mut [u8], place: usize) -> 
     settle(b, n, written, events, place)
 }
 
-// Refusals 1, 7 and 8.
+// Refusals 1, 16, 7 and 8.
 pub fn write_port(b: Board, port: u16, byte: u8, events: &mut [u8], place: usize) -> Answered
     ensures { λ r. ⌜ outcome r (now (events .exit)) ≡ writePort b port byte (now (events .entry)) place ⌝ }
 {
+    let owed = b.owed;
     let known = port_of(port);
     match known {
-        Port::Data(n) => data_write(b, n, byte, events, place),
-        Port::Command => control_register_write(b, byte, events, place),
+        Port::Data(n) => {
+            if owed.0 != 0 {
+                return b.refuse(Refusal::TicksOwed);
+            }
+            data_write(b, n, byte, events, place)
+        }
+        Port::Command => {
+            if owed.0 != 0 {
+                return b.refuse(Refusal::TicksOwed);
+            }
+            control_register_write(b, byte, events, place)
+        }
         Port::Unknown => b.refuse(Refusal::PortUnknown),
     }
 }

@@ -4,15 +4,15 @@ use mathlib.Core.List.{[], _∷_}
 use mathlib.Core.Path.{_≡_, refl}
 use lib.ListN.{getD}
 use Rattle.refusal.specs.declared.Refusal.{Refusal}
-use Rattle.refusal.specs.declared.Refusal.the-variants.{PortUnknown, ChannelAbove2, DivisorZero, TicksBelowWarp, RemainderTooLarge, TooManyCounts, PlacePastEnd, NoRoom, TraceEnds, SettingsCount, TooManyOperations, UnknownCode, BytesAfter, RuleBroken}
+use Rattle.refusal.specs.declared.Refusal.the-variants.{PortUnknown, ChannelAbove2, DivisorZero, TicksBelowWarp, RemainderTooLarge, TooManyCounts, PlacePastEnd, NoRoom, TraceEnds, SettingsCount, TooManyOperations, UnknownCode, BytesAfter, RuleBroken, TooManyTicks, TicksOwed}
 use Rattle.refusal.specs.Refusal.{refusalNumber}
 use Rattle.refusal.proofs.Apart.{apart-by}
 
--- no refusal has the number 0, or one above 14; some refusal stands there too
+-- no refusal has the number 0, or one above 16; some refusal stands there too
 abbrev pub refusalNumbered : ℕ → Refusal
 refusalNumbered number =
     getD
-    (PortUnknown ∷ PortUnknown ∷ ChannelAbove2 ∷ DivisorZero ∷ TicksBelowWarp ∷ RemainderTooLarge ∷ TooManyCounts ∷ PlacePastEnd ∷ NoRoom ∷ TraceEnds ∷ SettingsCount ∷ TooManyOperations ∷ UnknownCode ∷ BytesAfter ∷ RuleBroken ∷ [])
+    (PortUnknown ∷ PortUnknown ∷ ChannelAbove2 ∷ DivisorZero ∷ TicksBelowWarp ∷ RemainderTooLarge ∷ TooManyCounts ∷ PlacePastEnd ∷ NoRoom ∷ TraceEnds ∷ SettingsCount ∷ TooManyOperations ∷ UnknownCode ∷ BytesAfter ∷ RuleBroken ∷ TooManyTicks ∷ TicksOwed ∷ [])
     number
     RuleBroken
 
@@ -31,6 +31,8 @@ numbered-back TooManyOperations = refl
 numbered-back UnknownCode = refl
 numbered-back BytesAfter = refl
 numbered-back RuleBroken = refl
+numbered-back TooManyTicks = refl
+numbered-back TicksOwed = refl
 
 pub numbers-apart : (r s : Refusal) → refusalNumber r ≡ refusalNumber s → r ≡ s
 numbers-apart = apart-by refusalNumber refusalNumbered numbered-back

@@ -1,7 +1,7 @@
--- Document 01, "Refusal numbers": the number of each refusal.
+-- Document 01, "Refusal numbers": the number of each refusal; request L1 adds two.
 use Prim.Native.Nat.{ℕ}
 use Rattle.refusal.specs.declared.Refusal.{Refusal}
-use Rattle.refusal.specs.declared.Refusal.the-variants.{PortUnknown, ChannelAbove2, DivisorZero, TicksBelowWarp, RemainderTooLarge, TooManyCounts, PlacePastEnd, NoRoom, TraceEnds, SettingsCount, TooManyOperations, UnknownCode, BytesAfter, RuleBroken}
+use Rattle.refusal.specs.declared.Refusal.the-variants.{PortUnknown, ChannelAbove2, DivisorZero, TicksBelowWarp, RemainderTooLarge, TooManyCounts, PlacePastEnd, NoRoom, TraceEnds, SettingsCount, TooManyOperations, UnknownCode, BytesAfter, RuleBroken, TooManyTicks, TicksOwed}
 
 abbrev pub refusalNumber : Refusal → ℕ
 -- "port not 0x40 to 0x43"
@@ -26,9 +26,13 @@ refusalNumber TraceEnds = 9
 refusalNumber SettingsCount = 10
 -- "operation count above 4,096"
 refusalNumber TooManyOperations = 11
--- "operation code not 1 to 8"
+-- "operation code not 1 to 8"; "12 now means not 1 to 9" (02, L1)
 refusalNumber UnknownCode = 12
 -- "bytes after the last operation"
 refusalNumber BytesAfter = 13
 -- "a trace's model, target or number breaks its rule"
 refusalNumber RuleBroken = 14
+-- "15 for a stated number above 65,536" (02, L1)
+refusalNumber TooManyTicks = 15
+-- "16 for a port write, gate, reset, catch-up or run while ticks are owed" (02, L1)
+refusalNumber TicksOwed = 16

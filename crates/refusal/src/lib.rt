@@ -1,4 +1,4 @@
-// Why a call or a trace is refused: document 01's table of refusal numbers.
+// Why a call or a trace is refused: document 01's table of refusal numbers, and those that request L1 of document 02 adds.
 ghost use mathlib.Core.Path.{_≡_};
 ghost use Rattle.refusal.specs.Refusal.{refusalNumber};
 
@@ -17,6 +17,8 @@ pub enum Refusal {
     UnknownCode,
     BytesAfter,
     RuleBroken,
+    TooManyTicks,
+    TicksOwed,
 }
 
 impl Refusal {
@@ -38,6 +40,8 @@ impl Refusal {
             Refusal::UnknownCode => 12,
             Refusal::BytesAfter => 13,
             Refusal::RuleBroken => 14,
+            Refusal::TooManyTicks => 15,
+            Refusal::TicksOwed => 16,
         }
     }
 }

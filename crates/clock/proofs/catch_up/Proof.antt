@@ -6,7 +6,7 @@ use Rattle.clock.proofs.catch_up.Tie as tie
 
 returns : tie.Need-returns
 unfolding catchUp
-returns c = simp (c .elapse .ensures)
+returns c = simp (c .timely .ensures)
 
 pub catch-up-spec : {M : Type 1} → statement M
 catch-up-spec =

@@ -6,7 +6,7 @@ use Rattle.clock.proofs.run.Tie as tie
 
 returns : tie.Need-returns
 unfolding run
-returns c = simp (c .elapse .ensures)
+returns c = simp (c .timely .ensures)
 
 pub run-spec : {M : Type 1} → statement M
 run-spec =

@@ -1,15 +1,15 @@
--- `board::Board::reset` meets its contract. Assumes nothing.
+-- `board::Board::restored` meets its contract. Assumes nothing.
 use borrow.Author.Needs.{needs}
-use Rattle.board.specs.Making.{reset}
-use Rattle.board.proofs.Board.reset.Statement.{statement}
-use Rattle.board.proofs.Board.reset.Tie as tie
+use Rattle.board.specs.Making.{restored}
+use Rattle.board.proofs.Board.restored.Statement.{statement}
+use Rattle.board.proofs.Board.restored.Tie as tie
 
 returns : tie.Need-returns
-unfolding reset
+unfolding restored
 returns c = simp (c .reset3 .ensures, c .before .reset2 .ensures, c .before .before .reset .ensures)
 
-pub reset-spec : {M : Type 1} → statement M
-reset-spec =
+pub restored-spec : {M : Type 1} → statement M
+restored-spec =
     tie.close
     (tie.spec
     (λ c. search needs)
