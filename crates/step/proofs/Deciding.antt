@@ -3,7 +3,7 @@ use Prim.Native.Nat.{ℕ}
 use mathlib.Core.Path.{_≡_, refl, sym, ap}
 use mathlib.Core.Bool.{Bool, true, false, cond, false≢true}
 use mathlib.Core.List.{List, [], _∷_}
-use mathlib.Core.Logic.{_⊎_, inl, inr, ⊎-elim, _↔_}
+use mathlib.Core.Logic.{inl, inr, ⊎-elim, _↔_}
 use Rattle.refusal.specs.Reply.{Reply, refused, accepted, numberIn}
 use Rattle.refusal.proofs.Apart.{not-refused}
 use Rattle.step.specs.Refusals.{Row, FirstOf}

@@ -1,5 +1,6 @@
 -- Events cannot lie: an accepted port write or gate tells of the change of output level that it made, and where it tells of none it made
--- none. That the board has three channels and that what is written is a byte stands as a premise. Assumes nothing.
+-- none. What ticks worked off tell is proved in the crate owed (specs/Told.antt there). That the board has three channels and that what is written is a byte
+-- stands as a premise. Assumes nothing.
 use Prim.Native.Nat.{ℕ, _+_, _<_, _≤_}
 use mathlib.Core.Bool.{Bool, true, false, true≢false, false≢true}
 use mathlib.Core.List.{List}
@@ -25,7 +26,7 @@ use Rattle.event.proofs.Written.{event-written}
 use Rattle.board.specs.declared.Board.{Board}
 use Rattle.board.specs.Board.{channelAt, withChannel}
 use Rattle.board.proofs.Channels.{put-found, put-other}
-use Rattle.board.specs.Outcome.{Outcome, Value, done, newPlace, byte, ticks, outputState, channelCount, retriggers, dirtyMarks, timerAccum, refuse}
+use Rattle.board.specs.Outcome.{Outcome, Value, done, newPlace, byte, ticks, outputState, channelCount, retriggers, dirtyMarks, timerAccum, worked, refuse, unlessOwed}
 use Rattle.ports.specs.declared.port.Port.{Port}
 use Rattle.ports.specs.declared.port.Port.the-variants.{Data, Command as CommandPort, Unknown}
 use Rattle.ports.specs.Port.{portOf}
@@ -39,6 +40,7 @@ use Rattle.step.specs.Levels.{levelAt}
 use Rattle.gate.specs.Gate.{setGate}
 use Rattle.refusal.proofs.Apart.{refused-not}
 use Rattle.step.specs.Events.{NoEvent, OneEvent, Told, ToldBy}
+use Rattle.step.proofs.Owing.{by-owed}
 
 abbrev pub placeIn : Value → ℕ
 placeIn done = 0
@@ -50,6 +52,7 @@ placeIn (channelCount register element counting) = 0
 placeIn (retriggers answer) = 0
 placeIn (dirtyMarks dirty counting ticked) = 0
 placeIn (timerAccum left) = 0
+placeIn (worked made p) = p
 
 abbrev valueIn : Reply Value → Value
 valueIn (refused number) = done
@@ -152,6 +155,13 @@ module _ (b : Board) (three : length (b .channels) ≡ 3) (events : List ℕ) (p
         inl (record { same-place = p .0; same-bytes = p .1; same-levels = λ m. ap (λ (x : Board). levelAt x m) (p .2 b b) }),
       )
 
+  owing-told : (outcome : Outcome) → (outcome .reply ≡ accepted value → ToldBy b events place outcome value)
+      → unlessOwed b events outcome .reply ≡ accepted value → ToldBy b events place (unlessOwed b events outcome) value
+  owing-told outcome tells =
+      by-owed (λ (o : Outcome). o .reply ≡ accepted value → ToldBy b events place o value) b events outcome
+      (λ owes e. absurd (refused-not 16 value e))
+      (λ none. tells)
+
   command-told : (x : ℕ) → x < 256 → (command : Command) → commandOf x ≡ command → controlRegisterWrite b command events place .reply ≡ accepted value
       → ToldBy b events place (controlRegisterWrite b command events place) value
   command-told x small Nothing is e = untouched-told e
@@ -160,8 +170,8 @@ module _ (b : Board) (three : length (b .channels) ≡ 3) (events : List ℕ) (p
 
   port-told : (number x : ℕ) → x < 256 → (port : Port) → portOf number ≡ port → writeTo b port x events place .reply ≡ accepted value
       → ToldBy b events place (writeTo b port x events place) value
-  port-told number x small (Data n) is e = settled-told n (data-below number n is) _ e
-  port-told number x small CommandPort is e = command-told x small (commandOf x) refl e
+  port-told number x small (Data n) is e = owing-told _ (settled-told n (data-below number n is) _) e
+  port-told number x small CommandPort is e = owing-told _ (command-told x small (commandOf x) refl) e
   port-told number x small Unknown is e = absurd (refused-not 1 value e)
 
   pub write-told : (port x : ℕ) → x < 256 → step b (WritePort port x events place) .reply ≡ accepted value
@@ -175,6 +185,6 @@ module _ (b : Board) (three : length (b .channels) ≡ 3) (events : List ℕ) (p
   gate-told n level =
       pick-knowing (λ (o : Outcome). o .reply ≡ accepted value → ToldBy b events place o value) (ltb 2 n) (refuse 2 b events) _
       (λ above e. absurd (refused-not 2 value e))
-      (λ on e.
+      (λ on.
       let h : n ≤ 2 = ltb-false 2 n on in
-      settled-told n (omega arith) (setGate (channelAt b n) level) e)
+      owing-told _ (settled-told n (omega arith) (setGate (channelAt b n) level)))

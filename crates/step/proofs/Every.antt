@@ -1,14 +1,15 @@
--- What holds of every refusal, of every accepted outcome that changes only channels and keeps their number and the lent bytes' length, and of
--- every accepted time call, holds of every step. Assumes nothing.
+-- What holds of every refusal and of every accepted outcome that changes only channels and keeps their number and the lent bytes' length holds of every
+-- step that leaves the owed ticks; what holds of ticks worked off too, of every step but the time calls; and with these of every step. Assumes nothing.
 use Prim.Native.Nat.{ℕ, _+_, _-_, _≤_}
 use mathlib.Core.Path.{_≡_, refl, _∙_}
 use mathlib.Core.Bool.{Bool, true, false, true≢false}
 use mathlib.Core.List.{List, []}
 use lib.Dec.{ltb}
 use lib.ListN.{length, set, length-set}
+use borrow.Author.Tests.{ltb-false}
 use Rattle.refusal.specs.Reply.{Reply, accepted}
 use Rattle.channel.specs.declared.Channel.{Channel}
-use Rattle.channel.proofs.Pick.{pick-holds}
+use Rattle.channel.proofs.Pick.{pick-holds, pick-knowing}
 use Rattle.control.specs.declared.Command.{Command}
 use Rattle.control.specs.declared.Command.the-variants.{Nothing, LatchCount, SetMode}
 use Rattle.control.specs.Control.{commandOf}
@@ -20,12 +21,12 @@ use Rattle.event.proofs.Written.{event-written}
 use Rattle.time.specs.Time.{Yield, converted, summed}
 use Rattle.board.specs.declared.Board.{Board}
 use Rattle.board.specs.Board.{withChannels}
-use Rattle.board.specs.Outcome.{Outcome, Value, done, newPlace, refuse, accept, onChannel}
+use Rattle.board.specs.Outcome.{Outcome, Value, done, newPlace, refuse, accept, onChannel, unlessOwed}
 use Rattle.board.proofs.Channels.{by-channel}
-use Rattle.board.specs.Making.{reset}
+use Rattle.board.specs.Making.{restored, reset}
 use Rattle.board.specs.Counting.{counts, loadCycle}
 use Rattle.board.specs.Queries.{getOutputState, getChannelCount, doesChannelRetrigger, isDirty}
-use Rattle.clock.specs.Clock.{elapsed, yielding, catchUp, run}
+use Rattle.clock.specs.Clock.{elapsed, yielding, timely, catchUp, run}
 use Rattle.clock.proofs.Elapsed.{by-time}
 use Rattle.ports.specs.declared.port.Port.{Port}
 use Rattle.ports.specs.declared.port.Port.the-variants.{Data, Command as CommandPort, Unknown}
@@ -34,40 +35,51 @@ use Rattle.ports.specs.Settle.{placedOn, settle, untouched}
 use Rattle.ports.specs.Gates.{setChannelGate}
 use Rattle.ports.specs.Reads.{readFrom, readPort}
 use Rattle.ports.specs.Writes.{controlRegisterWrite, writeTo, writePort}
-use Rattle.step.specs.Operation.{Operation, WritePort, ReadPort, SetChannelGate, Counts, LoadCycle, CatchUp, Run, Reset, GetOutputState, GetChannelCount, DoesChannelRetrigger, IsDirty, GetTimerAccum, lent}
+use Rattle.owed.specs.Worked.{Work, report, workOff}
+use Rattle.step.specs.Operation.{Operation, WritePort, ReadPort, SetChannelGate, Counts, LoadCycle, CatchUp, Run, Reset, GetOutputState, GetChannelCount, DoesChannelRetrigger, IsDirty, GetTimerAccum, WorkOff, lent}
 use Rattle.step.specs.Step.{step}
 use Rattle.step.specs.Time.{ticksIn, ifAccepted, taken, isTimeCall}
+use Rattle.step.specs.Owed.{madeIn, changesOwed}
+use Rattle.step.proofs.Owing.{by-owed, by-timely}
+use Rattle.step.proofs.Working.{Underway, worked-on}
+
+-- an answer that tells neither of timer ticks yielded nor of ticks made
+abbrev pub Plain : Value → Type 0
+Plain value = (ticksIn value ≡ 0) × (madeIn value ≡ 0)
 
 -- P speaks of the lent bytes, of the system ticks taken in, and of the outcome
 module _ (b : Board) (P : List ℕ → ℕ → Outcome → Type 0)
     (refuses : (events : List ℕ) (number : ℕ) → P events 0 (refuse number b events))
-    (accepts : (events bytes : List ℕ) (value : Value) (channels : List Channel) → ticksIn value ≡ 0 → length bytes ≡ length events
+    (accepts : (events bytes : List ℕ) (value : Value) (channels : List Channel) → Plain value → length bytes ≡ length events
     → (length (b .channels) ≡ 3 → length channels ≡ 3)
     → P events 0 (record { reply = accepted value; board = withChannels b channels; events = bytes }))
   where
     put-three : (n : ℕ) (c : Channel) → length (b .channels) ≡ 3 → length (set (b .channels) n c) ≡ 3
     put-three n c three = length-set (b .channels) n c ∙ three
 
-    accepted-on : (n : ℕ) (value : Value) (channels : List Channel) → ticksIn value ≡ 0 → (length (b .channels) ≡ 3 → length channels ≡ 3)
+    accepted-on : (n : ℕ) (value : Value) (channels : List Channel) → Plain value → (length (b .channels) ≡ 3 → length channels ≡ 3)
         → P [] 0 (onChannel b n [] (accept value (withChannels b channels)))
-    accepted-on n value channels none three =
-        by-channel (P [] 0) b n [] _ (refuses [] 2) (λ on. accepts [] [] value channels none refl three)
+    accepted-on n value channels plain three =
+        by-channel (P [] 0) b n [] _ (refuses [] 2) (λ on. accepts [] [] value channels plain refl three)
+
+    owing-every : (events : List ℕ) (outcome : Outcome) → P events 0 outcome → P events 0 (unlessOwed b events outcome)
+    owing-every events outcome holds = by-owed (P events 0) b events outcome (λ owes. refuses events 16) (λ none. holds)
 
     counts-every : (n number : ℕ) → P [] 0 (counts b n number)
     unfolding counts
     counts-every n number =
         by-channel (P [] 0) b n [] _ (refuses [] 2)
-        (λ on. pick-holds (P [] 0) (ltb 65536 number) (refuse 6 b []) _ (refuses [] 6) (accepts [] [] done _ refl refl (put-three n _)))
+        (λ on. pick-holds (P [] 0) (ltb 65536 number) (refuse 6 b []) _ (refuses [] 6) (accepts [] [] done _ (refl, refl) refl (put-three n _)))
 
     event-every : (event : Event) (channels : List Channel) (events : List ℕ) (place : ℕ) → (length (b .channels) ≡ 3 → length channels ≡ 3)
         → P events 0 (placedOn b (withChannels b channels) (placeEvent event events place))
     event-every Unchanged channels events place three =
         by-unchanged events place (λ (p : Placing). P events 0 (placedOn b (withChannels b channels) p)) (λ past. refuses events 7)
-        (λ inside. accepts events events (newPlace place) channels refl refl three)
+        (λ inside. accepts events events (newPlace place) channels (refl, refl) refl three)
     event-every (Level n level) channels events place three =
         by-level events place (λ (p : Placing). P events 0 (placedOn b (withChannels b channels) p)) (λ past. refuses events 7) n level
         (λ inside few. refuses events 8)
-        (λ room. accepts events _ (newPlace (place + 2)) channels refl (event-written n level events place room .same-length) three)
+        (λ room. accepts events _ (newPlace (place + 2)) channels (refl, refl) (event-written n level events place room .same-length) three)
 
     command-every : (command : Command) (events : List ℕ) (place : ℕ) → P events 0 (controlRegisterWrite b command events place)
     unfolding settle untouched
@@ -77,58 +89,94 @@ module _ (b : Board) (P : List ℕ → ℕ → Outcome → Type 0)
 
     write-every : (port : Port) (byte : ℕ) (events : List ℕ) (place : ℕ) → P events 0 (writeTo b port byte events place)
     unfolding settle
-    write-every (Data n) byte events place = event-every _ _ events place (put-three n _)
-    write-every CommandPort byte events place = command-every (commandOf byte) events place
+    write-every (Data n) byte events place = owing-every events _ (event-every _ _ events place (put-three n _))
+    write-every CommandPort byte events place = owing-every events _ (command-every (commandOf byte) events place)
     write-every Unknown byte events place = refuses events 1
 
     gate-every : (n : ℕ) (level : Bool) (events : List ℕ) (place : ℕ) → P events 0 (setChannelGate b n level events place)
     unfolding setChannelGate settle
     gate-every n level events place =
-        by-channel (P events 0) b n events _ (refuses events 2) (λ on. event-every _ _ events place (put-three n _))
+        by-channel (P events 0) b n events _ (refuses events 2) (λ on. owing-every events _ (event-every _ _ events place (put-three n _)))
 
     read-every : (port : Port) → P [] 0 (readFrom b port)
-    read-every (Data n) = accepts [] [] _ _ refl refl (put-three n _)
-    read-every CommandPort = accepts [] [] _ (b .channels) refl refl (λ three. three)
+    read-every (Data n) = accepts [] [] _ _ (refl, refl) refl (put-three n _)
+    read-every CommandPort = accepts [] [] _ (b .channels) (refl, refl) refl (λ three. three)
     read-every Unknown = refuses [] 1
 
-    -- every operation but catch-up and run
-    pub every-other : (o : Operation) → isTimeCall o ≡ false → P (lent o) 0 (step b o)
-    unfolding reset writePort readPort loadCycle getOutputState getChannelCount doesChannelRetrigger isDirty
-    every-other (WritePort port byte events place) other = write-every (portOf port) byte events place
-    every-other (ReadPort port) other = read-every (portOf port)
-    every-other (SetChannelGate n level events place) other = gate-every n level events place
-    every-other (Counts n number) other = counts-every n number
-    every-other (LoadCycle n) other = accepted-on n _ _ refl (put-three n _)
-    every-other (CatchUp given) other = absurd (true≢false other)
-    every-other (Run given) other = absurd (true≢false other)
-    every-other Reset other = accepts [] [] _ _ refl refl (λ three. refl)
-    every-other (GetOutputState n) other = accepted-on n _ (b .channels) refl (λ three. three)
-    every-other (GetChannelCount n) other = accepted-on n _ (b .channels) refl (λ three. three)
-    every-other (DoesChannelRetrigger n) other = accepted-on n _ (b .channels) refl (λ three. three)
-    every-other (IsDirty n) other = accepted-on n _ _ refl (put-three n _)
-    every-other GetTimerAccum other = accepts [] [] _ (b .channels) refl refl (λ three. three)
+    reset-every : P [] 0 (reset b)
+    unfolding reset restored
+    reset-every = owing-every [] _ (accepts [] [] done _ (refl, refl) refl (λ three. refl))
 
-    module _ (yields : (given warp : ℕ) (defer : Bool) → b .warp .0 ≤ given → P [] (given - b .warp .0) (yielding b warp defer (accepted (converted (summed given (b .warp .0) (b .remainder .0)) (b .divisor))))) where
-      time-every : (given warp : ℕ) (defer : Bool)
-          → P [] (ifAccepted (yielding b warp defer (elapsed b given) .reply) (given - b .warp .0)) (yielding b warp defer (elapsed b given))
-      time-every given warp defer =
-          by-time b given
-          (λ (made : Reply Yield). P [] (ifAccepted (yielding b warp defer made .reply) (given - b .warp .0)) (yielding b warp defer made))
-          (λ number. refuses [] number)
-          (λ since. yields given warp defer since)
+    -- every operation but catch-up, run and the call that works ticks off
+    pub every-plain : (o : Operation) → changesOwed o ≡ false → P (lent o) 0 (step b o)
+    unfolding writePort readPort loadCycle getOutputState getChannelCount doesChannelRetrigger isDirty
+    every-plain (WritePort port byte events place) other = write-every (portOf port) byte events place
+    every-plain (ReadPort port) other = read-every (portOf port)
+    every-plain (SetChannelGate n level events place) other = gate-every n level events place
+    every-plain (Counts n number) other = counts-every n number
+    every-plain (LoadCycle n) other = accepted-on n _ _ (refl, refl) (put-three n _)
+    every-plain (CatchUp given) other = absurd (true≢false other)
+    every-plain (Run given) other = absurd (true≢false other)
+    every-plain Reset other = reset-every
+    every-plain (GetOutputState n) other = accepted-on n _ (b .channels) (refl, refl) (λ three. three)
+    every-plain (GetChannelCount n) other = accepted-on n _ (b .channels) (refl, refl) (λ three. three)
+    every-plain (DoesChannelRetrigger n) other = accepted-on n _ (b .channels) (refl, refl) (λ three. three)
+    every-plain (IsDirty n) other = accepted-on n _ _ (refl, refl) (put-three n _)
+    every-plain GetTimerAccum other = accepts [] [] _ (b .channels) (refl, refl) refl (λ three. three)
+    every-plain (WorkOff stated events place) other = absurd (true≢false other)
 
-      pub every-step : (o : Operation) → P (lent o) (taken b o) (step b o)
-      unfolding catchUp run
-      every-step (WritePort port byte events place) = every-other (WritePort port byte events place) refl
-      every-step (ReadPort port) = every-other (ReadPort port) refl
-      every-step (SetChannelGate n level events place) = every-other (SetChannelGate n level events place) refl
-      every-step (Counts n number) = every-other (Counts n number) refl
-      every-step (LoadCycle n) = every-other (LoadCycle n) refl
-      every-step (CatchUp given) = time-every given given true
-      every-step (Run given) = time-every given 0 (b .defer)
-      every-step Reset = every-other Reset refl
-      every-step (GetOutputState n) = every-other (GetOutputState n) refl
-      every-step (GetChannelCount n) = every-other (GetChannelCount n) refl
-      every-step (DoesChannelRetrigger n) = every-other (DoesChannelRetrigger n) refl
-      every-step (IsDirty n) = every-other (IsDirty n) refl
-      every-step GetTimerAccum = every-other GetTimerAccum refl
+    module _ (works : (events : List ℕ) (w : Work) → Underway b events w → P events 0 (report w)) where
+      work-every : (stated : ℕ) (events : List ℕ) (place : ℕ) → P events 0 (workOff b stated events place)
+      unfolding workOff
+      work-every stated events place =
+          pick-knowing (P events 0) (ltb (length events) place) (refuse 7 b events) _ (λ past. refuses events 7)
+          (λ inside.
+          pick-holds (P events 0) (ltb 65536 stated) (refuse 15 b events) _ (refuses events 15)
+          (works events _ (worked-on b events stated place (ltb-false _ _ inside))))
+
+      -- every operation but catch-up and run
+      pub every-other : (o : Operation) → isTimeCall o ≡ false → P (lent o) 0 (step b o)
+      every-other (WritePort port byte events place) other = every-plain (WritePort port byte events place) refl
+      every-other (ReadPort port) other = every-plain (ReadPort port) refl
+      every-other (SetChannelGate n level events place) other = every-plain (SetChannelGate n level events place) refl
+      every-other (Counts n number) other = every-plain (Counts n number) refl
+      every-other (LoadCycle n) other = every-plain (LoadCycle n) refl
+      every-other (CatchUp given) other = absurd (true≢false other)
+      every-other (Run given) other = absurd (true≢false other)
+      every-other Reset other = every-plain Reset refl
+      every-other (GetOutputState n) other = every-plain (GetOutputState n) refl
+      every-other (GetChannelCount n) other = every-plain (GetChannelCount n) refl
+      every-other (DoesChannelRetrigger n) other = every-plain (DoesChannelRetrigger n) refl
+      every-other (IsDirty n) other = every-plain (IsDirty n) refl
+      every-other GetTimerAccum other = every-plain GetTimerAccum refl
+      every-other (WorkOff stated events place) other = work-every stated events place
+
+      module _ (yields : (given warp : ℕ) (defer : Bool) → b .owed .0 ≡ 0 → b .warp .0 ≤ given → P [] (given - b .warp .0) (yielding b warp defer (accepted (converted (summed given (b .warp .0) (b .remainder .0)) (b .divisor))))) where
+        time-every : (given warp : ℕ) (defer : Bool)
+            → P [] (ifAccepted (timely b (yielding b warp defer (elapsed b given)) .reply) (given - b .warp .0)) (timely b (yielding b warp defer (elapsed b given)))
+        time-every given warp defer =
+            by-timely (λ (o : Outcome). P [] (ifAccepted (o .reply) (given - b .warp .0)) o) b (yielding b warp defer (elapsed b given))
+            (refuses [] 3)
+            (λ owes. refuses [] 16)
+            (λ none.
+            by-time b given
+            (λ (made : Reply Yield). P [] (ifAccepted (yielding b warp defer made .reply) (given - b .warp .0)) (yielding b warp defer made))
+            (λ number. refuses [] number)
+            (λ since. yields given warp defer none since))
+
+        pub every-step : (o : Operation) → P (lent o) (taken b o) (step b o)
+        unfolding catchUp run
+        every-step (WritePort port byte events place) = every-other (WritePort port byte events place) refl
+        every-step (ReadPort port) = every-other (ReadPort port) refl
+        every-step (SetChannelGate n level events place) = every-other (SetChannelGate n level events place) refl
+        every-step (Counts n number) = every-other (Counts n number) refl
+        every-step (LoadCycle n) = every-other (LoadCycle n) refl
+        every-step (CatchUp given) = time-every given given true
+        every-step (Run given) = time-every given 0 (b .defer)
+        every-step Reset = every-other Reset refl
+        every-step (GetOutputState n) = every-other (GetOutputState n) refl
+        every-step (GetChannelCount n) = every-other (GetChannelCount n) refl
+        every-step (DoesChannelRetrigger n) = every-other (DoesChannelRetrigger n) refl
+        every-step (IsDirty n) = every-other (IsDirty n) refl
+        every-step GetTimerAccum = every-other GetTimerAccum refl
+        every-step (WorkOff stated events place) = every-other (WorkOff stated events place) refl

@@ -1,5 +1,5 @@
--- What a step keeps of the board besides its channels: model and divisor always, remainder, warp and defer flag but for catch-up and run. Assumes
--- nothing.
+-- What a step keeps of the board besides its channels and owed ticks: model and divisor always, remainder, warp and defer flag but for catch-up and run.
+-- Assumes nothing.
 use mathlib.Core.Bool.{false}
 use mathlib.Core.Path.{_≡_, refl}
 use Rattle.board.specs.declared.Board.{Board}
@@ -12,7 +12,8 @@ pub time-kept : (b : Board) (o : Operation) → isTimeCall o ≡ false → TimeK
 time-kept b o other =
     every-other b (λ events ticks outcome. TimeKept b (outcome .board))
     (λ events number. record { model-kept = refl; divisor-kept = refl; remainder-kept = refl; warp-kept = refl; defer-kept = refl })
-    (λ events bytes value channels none fits three. record { model-kept = refl; divisor-kept = refl; remainder-kept = refl; warp-kept = refl; defer-kept = refl })
+    (λ events bytes value channels plain fits three. record { model-kept = refl; divisor-kept = refl; remainder-kept = refl; warp-kept = refl; defer-kept = refl })
+    (λ events w so-far. so-far .kept)
     o
     other
 
@@ -20,6 +21,7 @@ pub settings-kept : (b : Board) (o : Operation) → (step b o .board .model ≡ 
 settings-kept b o =
     every-step b (λ events ticks outcome. (outcome .board .model ≡ b .model) × (outcome .board .divisor ≡ b .divisor))
     (λ events number. (refl, refl))
-    (λ events bytes value channels none fits three. (refl, refl))
-    (λ given warp defer since. (refl, refl))
+    (λ events bytes value channels plain fits three. (refl, refl))
+    (λ events w so-far. (so-far .kept .model-kept, so-far .kept .divisor-kept))
+    (λ given warp defer none since. (refl, refl))
     o

@@ -17,6 +17,7 @@ pub refused-leaves : (b : Board) (o : Operation) (k : ℕ) → step b o .reply �
 refused-leaves b o =
     every-step b (λ events ticks outcome. Leaves b events outcome)
     (λ events number k e. (refl, refl))
-    (λ events bytes value channels none fits three k e. absurd (not-refused value k e))
-    (λ given warp defer since k e. absurd (not-refused _ k e))
+    (λ events bytes value channels plain fits three k e. absurd (not-refused value k e))
+    (λ events w so-far k e. absurd (not-refused _ k e))
+    (λ given warp defer none since k e. absurd (not-refused _ k e))
     o

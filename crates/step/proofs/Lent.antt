@@ -10,6 +10,7 @@ pub lent-length : (b : Board) (o : Operation) → length (step b o .events) ≡ 
 lent-length b o =
     every-step b (λ events ticks outcome. length (outcome .events) ≡ length events)
     (λ events number. refl)
-    (λ events bytes value channels none fits three. fits)
-    (λ given warp defer since. refl)
+    (λ events bytes value channels plain fits three. fits)
+    (λ events w so-far. so-far .same-length)
+    (λ given warp defer none since. refl)
     o

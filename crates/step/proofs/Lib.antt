@@ -1,10 +1,13 @@
 pub mod Levels
 pub mod Deciding
 pub mod Settled
+pub mod Owing
 pub mod Refusals
+pub mod Working
 pub mod Every
 pub mod Leaves
 pub mod Time
+pub mod Owed
 pub mod Events
 pub mod Lent
 pub mod Three
@@ -14,4 +17,3 @@ pub mod Kept
 pub mod Warp
 pub mod Numbers
 pub mod Listed
-pub mod Silent

@@ -1,4 +1,4 @@
--- Of the other operations none moves an output, but a reset, which raises no event. Assumes nothing.
+-- Of the operations other than a port write, a gate and ticks worked off none moves an output, but a reset, which raises no event. Assumes nothing.
 use Prim.Native.Nat.{ℕ, zero, suc, _<_}
 use mathlib.Core.Bool.{false, true≢false}
 use mathlib.Core.List.{[]}
@@ -25,7 +25,7 @@ use Rattle.ports.specs.declared.port.Port.the-variants.{Data, Command, Unknown}
 use Rattle.ports.specs.Port.{portOf}
 use Rattle.ports.proofs.Below.{data-below}
 use Rattle.ports.specs.Reads.{readFrom, readPort}
-use Rattle.step.specs.Operation.{Operation, WritePort, ReadPort, SetChannelGate, Counts, LoadCycle, CatchUp, Run, Reset, GetOutputState, GetChannelCount, DoesChannelRetrigger, IsDirty, GetTimerAccum}
+use Rattle.step.specs.Operation.{Operation, WritePort, ReadPort, SetChannelGate, Counts, LoadCycle, CatchUp, Run, Reset, GetOutputState, GetChannelCount, DoesChannelRetrigger, IsDirty, GetTimerAccum, WorkOff}
 use Rattle.step.specs.Step.{step}
 use Rattle.step.specs.Levels.{levelAt}
 use Rattle.step.specs.Events.{mayMove}
@@ -80,3 +80,4 @@ module _ (b : Board) (three : length (b .channels) ≡ 3) (m : ℕ) where
   others-still (DoesChannelRetrigger n) moves = stays-still (DoesChannelRetrigger n) (λ none. none)
   others-still (IsDirty n) moves = by-channel Still b n [] _ refl (λ on. put-still n on _ refl)
   others-still GetTimerAccum moves = stays-still GetTimerAccum (λ none. none)
+  others-still (WorkOff stated events place) moves = absurd (true≢false moves)

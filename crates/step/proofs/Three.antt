@@ -18,8 +18,9 @@ pub step-three : (b : Board) → length (b .channels) ≡ 3 → (o : Operation) 
 step-three b three o =
     every-step b (λ events ticks outcome. length (outcome .board .channels) ≡ 3)
     (λ events number. three)
-    (λ events bytes value channels none fits keeps. keeps three)
-    (λ given warp defer since. three)
+    (λ events bytes value channels plain fits keeps. keeps three)
+    (λ events w so-far. so-far .leaves-three three)
+    (λ given warp defer none since. three)
     o
 
 pub steps-three : (b : Board) → length (b .channels) ≡ 3 → (os : List Operation) → length (steps b os .channels) ≡ 3

@@ -24,8 +24,9 @@ step-balanced : (b : Board) (o : Operation) → Balanced b (taken b o) (step b o
 step-balanced b o =
     every-step b (λ events ticks outcome. Balanced b ticks outcome)
     (λ events number. record { divisor-kept = refl; balance = none-in b })
-    (λ events bytes value channels none fits three. record { divisor-kept = refl; balance = simp none (none-in b) })
-    (λ given warp defer since. record { divisor-kept = refl; balance = div-add-mod (summed given (b .warp .0) (b .remainder .0)) (b .divisor) })
+    (λ events bytes value channels plain fits three. record { divisor-kept = refl; balance = simp (plain .0) (none-in b) })
+    (λ events w so-far. record { divisor-kept = so-far .kept .divisor-kept; balance = simp (so-far .kept .remainder-kept) (none-in b) })
+    (λ given warp defer none since. record { divisor-kept = refl; balance = div-add-mod (summed given (b .warp .0) (b .remainder .0)) (b .divisor) })
     o
 
 sums : (a b r s t v w : ℕ) → a + s ≡ r + v → b + t ≡ s + w → a + b + t ≡ r + (v + w)

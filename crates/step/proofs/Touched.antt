@@ -14,10 +14,10 @@ use Rattle.time.specs.Time.{Yield}
 use Rattle.board.specs.declared.Board.{Board}
 use Rattle.board.specs.Board.{channelAt}
 use Rattle.board.proofs.Channels.{put-other, by-channel}
-use Rattle.board.specs.Outcome.{Outcome, refuse, accept}
+use Rattle.board.specs.Outcome.{Outcome, refuse, accept, unlessOwed}
 use Rattle.board.specs.Counting.{counts, loadCycle}
 use Rattle.board.specs.Queries.{getOutputState, getChannelCount, doesChannelRetrigger, isDirty}
-use Rattle.clock.specs.Clock.{elapsed, yielding, catchUp, run}
+use Rattle.clock.specs.Clock.{elapsed, yielding, timely, catchUp, run}
 use Rattle.ports.specs.declared.port.Port.{Port}
 use Rattle.ports.specs.declared.port.Port.the-variants.{Data, Command as CommandPort, Unknown}
 use Rattle.ports.specs.Port.{portOf}
@@ -26,13 +26,17 @@ use Rattle.ports.proofs.Settled.{untouched-holds, settle-holds}
 use Rattle.ports.specs.Gates.{setChannelGate}
 use Rattle.ports.specs.Reads.{readFrom, readPort}
 use Rattle.ports.specs.Writes.{controlRegisterWrite, writeTo, writePort}
-use Rattle.step.specs.Operation.{Operation, WritePort, ReadPort, SetChannelGate, Counts, LoadCycle, CatchUp, Run, Reset, GetOutputState, GetChannelCount, DoesChannelRetrigger, IsDirty, GetTimerAccum}
+use Rattle.step.specs.Operation.{Operation, WritePort, ReadPort, SetChannelGate, Counts, LoadCycle, CatchUp, Run, Reset, GetOutputState, GetChannelCount, DoesChannelRetrigger, IsDirty, GetTimerAccum, WorkOff}
 use Rattle.step.specs.Step.{step}
 use Rattle.step.specs.Touched.{CommandTouches, WriteTouches, ReadTouches, Touches}
+use Rattle.step.proofs.Owing.{by-owed, by-timely}
 
 module _ (b : Board) (m : ℕ) where
   abbrev Stays : Outcome → Type 0
   Stays outcome = channelAt (outcome .board) m ≡ channelAt b m
+
+  owing-stays : (events : List ℕ) (outcome : Outcome) → Stays outcome → Stays (unlessOwed b events outcome)
+  owing-stays events outcome stays = by-owed Stays b events outcome (λ owes. refl) (λ none. stays)
 
   settle-stays : (n : ℕ) (c : Channel) (events : List ℕ) (place : ℕ) → (m ≡ n → ⊥) → Stays (settle b n c events place)
   settle-stays n c events place other = settle-holds b events place n c (λ (d : Board). channelAt d m ≡ channelAt b m) refl (put-other b n m c other)
@@ -43,8 +47,8 @@ module _ (b : Board) (m : ℕ) where
   command-stays (SetMode n word) events place other = settle-stays n _ events place other
 
   pub write-stays : (port : Port) (byte : ℕ) (events : List ℕ) (place : ℕ) → (WriteTouches port byte m → ⊥) → Stays (writeTo b port byte events place)
-  write-stays (Data n) byte events place other = settle-stays n _ events place other
-  write-stays CommandPort byte events place other = command-stays (commandOf byte) events place other
+  write-stays (Data n) byte events place other = owing-stays events _ (settle-stays n _ events place other)
+  write-stays CommandPort byte events place other = owing-stays events _ (command-stays (commandOf byte) events place other)
   write-stays Unknown byte events place other = refl
 
   read-stays : (port : Port) → (ReadTouches port m → ⊥) → Stays (readFrom b port)
@@ -52,9 +56,12 @@ module _ (b : Board) (m : ℕ) where
   read-stays CommandPort other = refl
   read-stays Unknown other = refl
 
-  time-stays : (warp : ℕ) (defer : Bool) (made : Reply Yield) → Stays (yielding b warp defer made)
-  time-stays warp defer (refused number) = refl
-  time-stays warp defer (accepted yield) = refl
+  yielding-stays : (warp : ℕ) (defer : Bool) (made : Reply Yield) → Stays (yielding b warp defer made)
+  yielding-stays warp defer (refused number) = refl
+  yielding-stays warp defer (accepted yield) = refl
+
+  time-stays : (warp : ℕ) (defer : Bool) (made : Reply Yield) → Stays (timely b (yielding b warp defer made))
+  time-stays warp defer made = by-timely Stays b (yielding b warp defer made) refl (λ owes. refl) (λ none. yielding-stays warp defer made)
 
   counts-stays : (n number : ℕ) → (m ≡ n → ⊥) → Stays (counts b n number)
   unfolding counts
@@ -65,7 +72,7 @@ module _ (b : Board) (m : ℕ) where
   unfolding setChannelGate writePort readPort loadCycle catchUp run getOutputState getChannelCount doesChannelRetrigger isDirty
   untouched-stays (WritePort port byte events place) other = write-stays (portOf port) byte events place other
   untouched-stays (ReadPort port) other = read-stays (portOf port) other
-  untouched-stays (SetChannelGate n level events place) other = by-channel Stays b n events _ refl (λ on. settle-stays n _ events place other)
+  untouched-stays (SetChannelGate n level events place) other = by-channel Stays b n events _ refl (λ on. owing-stays events _ (settle-stays n _ events place other))
   untouched-stays (Counts n number) other = counts-stays n number other
   untouched-stays (LoadCycle n) other = by-channel Stays b n [] _ refl (λ on. put-other b n m _ other)
   untouched-stays (CatchUp given) other = time-stays given true (elapsed b given)
@@ -76,3 +83,4 @@ module _ (b : Board) (m : ℕ) where
   untouched-stays (DoesChannelRetrigger n) other = by-channel Stays b n [] (accept _ b) refl (λ on. refl)
   untouched-stays (IsDirty n) other = by-channel Stays b n [] _ refl (λ on. put-other b n m _ other)
   untouched-stays GetTimerAccum other = refl
+  untouched-stays (WorkOff stated events place) other = absurd (other tt)

@@ -1,4 +1,5 @@
--- Document 01, "Output events": what the lent bytes and the new place tell of an accepted call, before and after.
+-- Document 01, "Output events": what the lent bytes and the new place tell of an accepted port write or gate, before and after. What they tell of ticks worked
+-- off is `WorkedOff`, in the crate owed (specs/Told.antt there).
 use Prim.Native.Nat.{ℕ, _+_, _<_}
 use mathlib.Core.Bool.{Bool, true, false}
 use mathlib.Core.List.{List}
@@ -8,7 +9,7 @@ use Rattle.event.specs.Written.{Written}
 use Rattle.board.specs.declared.Board.{Board}
 use Rattle.board.specs.Outcome.{Outcome, Value, newPlace}
 use Rattle.step.specs.Levels.{levelAt}
-use Rattle.step.specs.Operation.{Operation, WritePort, ReadPort, SetChannelGate, Counts, LoadCycle, CatchUp, Run, Reset, GetOutputState, GetChannelCount, DoesChannelRetrigger, IsDirty, GetTimerAccum}
+use Rattle.step.specs.Operation.{Operation, WritePort, ReadPort, SetChannelGate, Counts, LoadCycle, CatchUp, Run, Reset, GetOutputState, GetChannelCount, DoesChannelRetrigger, IsDirty, GetTimerAccum, WorkOff}
 
 -- "the old if no event": every output stands where it stood, and no byte changes
 pub record NoEvent (b : Board) (events : List ℕ) (place : ℕ) (outcome : Outcome) (new : ℕ) : Type 0 where
@@ -33,7 +34,7 @@ Told b events place outcome new = NoEvent b events place outcome new ⊎ OneEven
 abbrev pub ToldBy : Board → List ℕ → ℕ → Outcome → Value → Type 0
 ToldBy b events place outcome value = (new : ℕ) × (value ≡ newPlace new) × Told b events place outcome new
 
--- which operations may move an output: a port write and a gate, which tell of it, and a reset, which raises no event
+-- which operations may move an output: a port write, a gate and ticks worked off, which tell of it, and a reset, which raises no event
 abbrev pub mayMove : Operation → Bool
 mayMove (WritePort port x events place) = true
 mayMove (ReadPort port) = false
@@ -48,3 +49,4 @@ mayMove (GetChannelCount n) = false
 mayMove (DoesChannelRetrigger n) = false
 mayMove (IsDirty n) = false
 mayMove GetTimerAccum = false
+mayMove (WorkOff stated events place) = true

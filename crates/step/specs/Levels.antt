@@ -1,10 +1,8 @@
 -- What document 01 says of the output's level after a data write and after a gate level, in one place and apart from the rules that make up a
 -- step; proofs/Levels.antt ties the two. After a mode set it is that rule's own row, `outputAfter`.
-use Prim.Native.Nat.{ℕ, _<_}
+use Prim.Native.Nat.{ℕ}
 use mathlib.Core.Bool.{Bool, true, false, cond}
-use mathlib.Core.Path.{_≡_}
 use Rattle.channel.specs.declared.Channel.{Channel}
-use Rattle.channel.specs.declared.ChannelMode.the-variants.{InterruptOnTerminalCount}
 use Rattle.channel.specs.declared.LoadState.{LoadState}
 use Rattle.channel.specs.declared.LoadState.the-variants.{WaitingForLsb, WaitingForMsb}
 use Rattle.channel.specs.declared.RwMode.{RwMode}
@@ -43,7 +41,3 @@ levelAfterGate c level =
     cond (waitsForReload (c .counter .«channel_state»)) (c .pins .output)
     (cond (falls (c .pins .gate) level) (byMode (c .pins .output) (c .pins .output) true true (c .pins .output) (c .pins .output) (c .control .mode))
     (c .pins .output))
-
--- an output that is low is of a channel in mode 0
-abbrev pub LowInMode0 : Board → Type 0
-LowInMode0 b = (n : ℕ) → n < 3 → levelAt b n ≡ false → channelAt b n .control .mode ≡ InterruptOnTerminalCount

@@ -7,3 +7,4 @@ pub mod Time
 pub mod Events
 pub mod Touched
 pub mod Numbers
+pub mod Owed

@@ -17,8 +17,9 @@ pub data Operation : Type 0 where
   DoesChannelRetrigger : (channel : ℕ) → Operation
   IsDirty : (channel : ℕ) → Operation
   GetTimerAccum : Operation
+  WorkOff : (stated : ℕ) (events : List ℕ) (place : ℕ) → Operation
 
--- the event bytes that a call lends: a port write's and a gate's, no others
+-- the event bytes that a call lends: a port write's, a gate's, and those of ticks worked off, no others
 abbrev pub lent : Operation → List ℕ
 lent (WritePort port byte events place) = events
 lent (ReadPort port) = []
@@ -33,3 +34,4 @@ lent (GetChannelCount channel) = []
 lent (DoesChannelRetrigger channel) = []
 lent (IsDirty channel) = []
 lent GetTimerAccum = []
+lent (WorkOff stated events place) = events

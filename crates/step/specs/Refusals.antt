@@ -14,7 +14,7 @@ use Rattle.board.specs.Board.{channelAt}
 use Rattle.ports.specs.declared.port.Port.{Port}
 use Rattle.ports.specs.declared.port.Port.the-variants as port
 use Rattle.ports.specs.Port.{portOf}
-use Rattle.step.specs.Operation.{Operation, WritePort, ReadPort, SetChannelGate, Counts, LoadCycle, CatchUp, Run, Reset, GetOutputState, GetChannelCount, DoesChannelRetrigger, IsDirty, GetTimerAccum}
+use Rattle.step.specs.Operation.{Operation, WritePort, ReadPort, SetChannelGate, Counts, LoadCycle, CatchUp, Run, Reset, GetOutputState, GetChannelCount, DoesChannelRetrigger, IsDirty, GetTimerAccum, WorkOff}
 use Rattle.step.specs.Levels.{levelAt, levelAfterWrite, levelAfterGate}
 
 -- a number of the table, and its "Given exactly when"
@@ -54,6 +54,14 @@ placePastEnd events place = record { number = 7; condition = length events < pla
 abbrev pub noRoom : Type 0 → List ℕ → ℕ → Row
 noRoom due events place = record { number = 8; condition = due × (length events - place < 2) }
 
+-- 15: "for a stated number above 65,536" (02, L1)
+abbrev pub tooManyTicks : ℕ → Row
+tooManyTicks stated = record { number = 15; condition = 65536 < stated }
+
+-- 16: "for a port write, gate, reset, catch-up or run while ticks are owed" (02, L1)
+abbrev pub ticksOwed : Board → Row
+ticksOwed b = record { number = 16; condition = 0 < b .owed .0 }
+
 -- "a change of output level": an event is due. "Setting a level that already stands is no event."
 abbrev pub Changes : Bool → Bool → Type 0
 Changes was is = was ≡ is → ⊥
@@ -78,25 +86,27 @@ GateDue b n level = Changes (levelAt b n) (levelAfterGate (channelAt b n) level)
 abbrev pub roomOrder : Type 0 → List ℕ → ℕ → List Row
 roomOrder due events place = placePastEnd events place ∷ noRoom due events place ∷ []
 
--- "time calls 3, 4, 5"
+-- "time calls 3, 4, 5", with 16 "right after 1, 2 or 3"
 abbrev pub timeOrder : Board → ℕ → List Row
-timeOrder b given = divisorZero (b .divisor) ∷ ticksBelowWarp b given ∷ remainderTooLarge b given ∷ []
+timeOrder b given = divisorZero (b .divisor) ∷ ticksOwed b ∷ ticksBelowWarp b given ∷ remainderTooLarge b given ∷ []
 
--- "Order: port write 1, 7, 8; read 1; gate 2, 7, 8; counts 2, 6; load cycle and channel queries 2; time calls 3, 4, 5"
+-- "Order: port write 1, 7, 8; read 1; gate 2, 7, 8; counts 2, 6; load cycle and channel queries 2; time calls 3, 4, 5";
+-- 16 "right after 1, 2 or 3 where these apply"; "15 ..., after 7"
 abbrev pub order : Board → Operation → List Row
-order b (WritePort port byte events place) = portUnknown port ∷ roomOrder (WriteDue b (portOf port) byte) events place
+order b (WritePort port byte events place) = portUnknown port ∷ ticksOwed b ∷ roomOrder (WriteDue b (portOf port) byte) events place
 order b (ReadPort port) = portUnknown port ∷ []
-order b (SetChannelGate channel level events place) = channelAbove2 channel ∷ roomOrder (GateDue b channel level) events place
+order b (SetChannelGate channel level events place) = channelAbove2 channel ∷ ticksOwed b ∷ roomOrder (GateDue b channel level) events place
 order b (Counts channel number) = channelAbove2 channel ∷ tooManyCounts number ∷ []
 order b (LoadCycle channel) = channelAbove2 channel ∷ []
 order b (CatchUp given) = timeOrder b given
 order b (Run given) = timeOrder b given
-order b Reset = []
+order b Reset = ticksOwed b ∷ []
 order b (GetOutputState channel) = channelAbove2 channel ∷ []
 order b (GetChannelCount channel) = channelAbove2 channel ∷ []
 order b (DoesChannelRetrigger channel) = channelAbove2 channel ∷ []
 order b (IsDirty channel) = channelAbove2 channel ∷ []
 order b GetTimerAccum = []
+order b (WorkOff stated events place) = placePastEnd events place ∷ tooManyTicks stated ∷ []
 
 -- "making a board 3"
 abbrev pub makingOrder : ℕ → List Row

@@ -5,8 +5,8 @@ use mathlib.Core.List.{List, [], _∷_}
 use mathlib.Core.Path.{_≡_}
 use Rattle.refusal.specs.Reply.{Reply, refused, accepted}
 use Rattle.board.specs.declared.Board.{Board}
-use Rattle.board.specs.Outcome.{Value, done, newPlace, byte, ticks, outputState, channelCount, retriggers, dirtyMarks, timerAccum}
-use Rattle.step.specs.Operation.{Operation, WritePort, ReadPort, SetChannelGate, Counts, LoadCycle, CatchUp, Run, Reset, GetOutputState, GetChannelCount, DoesChannelRetrigger, IsDirty, GetTimerAccum}
+use Rattle.board.specs.Outcome.{Value, done, newPlace, byte, ticks, outputState, channelCount, retriggers, dirtyMarks, timerAccum, worked}
+use Rattle.step.specs.Operation.{Operation, WritePort, ReadPort, SetChannelGate, Counts, LoadCycle, CatchUp, Run, Reset, GetOutputState, GetChannelCount, DoesChannelRetrigger, IsDirty, GetTimerAccum, WorkOff}
 use Rattle.step.specs.Step.{step}
 
 -- timer ticks in what an accepted call says
@@ -20,6 +20,7 @@ ticksIn (channelCount register element counting) = 0
 ticksIn (retriggers answer) = 0
 ticksIn (dirtyMarks dirty counting ticked) = 0
 ticksIn (timerAccum left) = 0
+ticksIn (worked made p) = 0
 
 -- timer ticks that a reply yields
 abbrev pub yielded : Reply Value → ℕ
@@ -46,6 +47,7 @@ taken b (GetChannelCount channel) = 0
 taken b (DoesChannelRetrigger channel) = 0
 taken b (IsDirty channel) = 0
 taken b GetTimerAccum = 0
+taken b (WorkOff stated events place) = 0
 
 -- "all timer ticks yielded"
 abbrev pub allYielded : Board → List Operation → ℕ
@@ -72,6 +74,7 @@ isTimeCall (GetChannelCount channel) = false
 isTimeCall (DoesChannelRetrigger channel) = false
 isTimeCall (IsDirty channel) = false
 isTimeCall GetTimerAccum = false
+isTimeCall (WorkOff stated events place) = false
 
 -- what is no time call's to change: "keeps model ..., and keeps remainder, warp and defer flag"
 pub record TimeKept (before after : Board) : Type 0 where

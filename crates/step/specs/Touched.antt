@@ -7,7 +7,7 @@ use Rattle.control.specs.Control.{commandOf}
 use Rattle.ports.specs.declared.port.Port.{Port}
 use Rattle.ports.specs.declared.port.Port.the-variants as port
 use Rattle.ports.specs.Port.{portOf}
-use Rattle.step.specs.Operation.{Operation, WritePort, ReadPort, SetChannelGate, Counts, LoadCycle, CatchUp, Run, Reset, GetOutputState, GetChannelCount, DoesChannelRetrigger, IsDirty, GetTimerAccum}
+use Rattle.step.specs.Operation.{Operation, WritePort, ReadPort, SetChannelGate, Counts, LoadCycle, CatchUp, Run, Reset, GetOutputState, GetChannelCount, DoesChannelRetrigger, IsDirty, GetTimerAccum, WorkOff}
 
 -- "nothing ..., latch, or mode set"
 abbrev pub CommandTouches : Command → ℕ → Type 0
@@ -27,7 +27,7 @@ ReadTouches (port.Data n) m = m ≡ n
 ReadTouches port.Command m = ⊥
 ReadTouches port.Unknown m = ⊥
 
--- "`reset` restores three fresh channels"; of the queries only "`is_dirty`, which clears the mark", changes a record
+-- "`reset` restores three fresh channels"; a tick of the board is one of each channel; of the queries only "`is_dirty`, which clears the mark", changes a record
 abbrev pub Touches : Operation → ℕ → Type 0
 Touches (WritePort port byte events place) m = WriteTouches (portOf port) byte m
 Touches (ReadPort port) m = ReadTouches (portOf port) m
@@ -42,3 +42,4 @@ Touches (GetChannelCount n) m = ⊥
 Touches (DoesChannelRetrigger n) m = ⊥
 Touches (IsDirty n) m = m ≡ n
 Touches GetTimerAccum m = ⊥
+Touches (WorkOff stated events place) m = Unit

@@ -1,0 +1,3 @@
+pub mod BoardTick
+pub mod Worked
+pub mod Told
