@@ -7,7 +7,7 @@ use denote.Enum.Declared.{tagOf}
 use lib.Dec.{eqb}
 use Rattle.refusal.specs.Reply.{numberIn}
 use Rattle.refusal.specs.declared.Refusal.{Refusal}
-use Rattle.refusal.specs.declared.Refusal.the-variants.{PortUnknown, ChannelAbove2, DivisorZero, TicksBelowWarp, RemainderTooLarge, TooManyCounts, PlacePastEnd, NoRoom, TraceEnds, SettingsCount, TooManyOperations, UnknownCode, BytesAfter, RuleBroken}
+use Rattle.refusal.specs.declared.Refusal.the-variants.{PortUnknown, ChannelAbove2, DivisorZero, TicksBelowWarp, RemainderTooLarge, TooManyCounts, PlacePastEnd, NoRoom, TraceEnds, SettingsCount, TooManyOperations, UnknownCode, BytesAfter, RuleBroken, TooManyTicks, TicksOwed}
 use Rattle.refusal.specs.Refusal.{refusalNumber}
 use Rattle.board.specs.declared.Answer.{Answer}
 use Rattle.board.specs.declared.Answer.the-variants.{Refused, Done, Place, Byte, Ticks, OutputState, Count, Retriggers, Dirty}
@@ -40,3 +40,5 @@ number-set TooManyOperations = refl
 number-set UnknownCode = refl
 number-set BytesAfter = refl
 number-set RuleBroken = refl
+number-set TooManyTicks = refl
+number-set TicksOwed = refl

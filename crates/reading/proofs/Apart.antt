@@ -5,7 +5,7 @@ use mathlib.Core.Path.{_≡_, refl, ap, ap₂}
 use lib.Dec.{eqb}
 use Rattle.refusal.specs.Reply.{Reply, refused, accepted}
 use Rattle.refusal.specs.declared.Refusal.{Refusal}
-use Rattle.refusal.specs.declared.Refusal.the-variants.{PortUnknown, ChannelAbove2, DivisorZero, TicksBelowWarp, RemainderTooLarge, TooManyCounts, PlacePastEnd, NoRoom, TraceEnds, SettingsCount, TooManyOperations, UnknownCode, BytesAfter, RuleBroken}
+use Rattle.refusal.specs.declared.Refusal.the-variants.{PortUnknown, ChannelAbove2, DivisorZero, TicksBelowWarp, RemainderTooLarge, TooManyCounts, PlacePastEnd, NoRoom, TraceEnds, SettingsCount, TooManyOperations, UnknownCode, BytesAfter, RuleBroken, TooManyTicks, TicksOwed}
 use Rattle.refusal.proofs.Apart.{apart-by}
 use Rattle.refusal.proofs.Numbered.{refusalNumbered}
 use Rattle.board.specs.declared.Board.{Board}
@@ -34,6 +34,8 @@ refused-back TooManyOperations = refl
 refused-back UnknownCode = refl
 refused-back BytesAfter = refl
 refused-back RuleBroken = refl
+refused-back TooManyTicks = refl
+refused-back TicksOwed = refl
 
 answer-back : (a : CountAnswer) → answerOf (countReply a) ≡ a
 answer-back (Refused refusal) = refused-back refusal

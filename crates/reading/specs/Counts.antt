@@ -1,27 +1,40 @@
--- Demand 3's n: "make n counts", in as many calls as one likes.
-use Prim.Native.Nat.{ℕ, _+_}
+-- Demand 3's n: "make n counts", in as many calls as one likes; 02, L1: "a tick that takes k from a channel being k counts of it".
+use Prim.Native.Nat.{ℕ, zero, suc, _+_}
 use mathlib.Core.Bool.{cond}
 use mathlib.Core.List.{List, [], _∷_}
 use lib.Dec.{eqb}
-use Rattle.step.specs.Operation.{Operation, WritePort, ReadPort, SetChannelGate, Counts, LoadCycle, CatchUp, Run, Reset, GetOutputState, GetChannelCount, DoesChannelRetrigger, IsDirty, GetTimerAccum}
+use Rattle.numbers.specs.Times.{times}
+use Rattle.tick.specs.Taken.{taken}
+use Rattle.board.specs.declared.Board.{Board}
+use Rattle.board.specs.Board.{channelAt}
+use Rattle.owed.specs.BoardTick.{boardTick}
+use Rattle.step.specs.Operation.{Operation, WritePort, ReadPort, SetChannelGate, Counts, LoadCycle, CatchUp, Run, Reset, GetOutputState, GetChannelCount, DoesChannelRetrigger, IsDirty, GetTimerAccum, WorkOff}
+use Rattle.step.specs.Step.{step}
+use Rattle.step.specs.Owed.{madeBy}
+
+-- the counts that the next ticks of the board, so many, take from channel i
+abbrev pub takenIn : ℕ → Board → ℕ → ℕ
+takenIn i b zero = 0
+takenIn i b (suc k) = takenIn i b k + taken (channelAt (times k boardTick b) i)
 
 -- the counts that an operation makes on channel i
-abbrev pub countsIn : ℕ → Operation → ℕ
-countsIn i (WritePort port byte events place) = 0
-countsIn i (ReadPort port) = 0
-countsIn i (SetChannelGate channel level events place) = 0
-countsIn i (Counts channel number) = cond (eqb channel i) number 0
-countsIn i (LoadCycle channel) = 0
-countsIn i (CatchUp given) = 0
-countsIn i (Run given) = 0
-countsIn i Reset = 0
-countsIn i (GetOutputState channel) = 0
-countsIn i (GetChannelCount channel) = 0
-countsIn i (DoesChannelRetrigger channel) = 0
-countsIn i (IsDirty channel) = 0
-countsIn i GetTimerAccum = 0
+abbrev pub countsIn : ℕ → Board → Operation → ℕ
+countsIn i b (WritePort port byte events place) = 0
+countsIn i b (ReadPort port) = 0
+countsIn i b (SetChannelGate channel level events place) = 0
+countsIn i b (Counts channel number) = cond (eqb channel i) number 0
+countsIn i b (LoadCycle channel) = 0
+countsIn i b (CatchUp given) = 0
+countsIn i b (Run given) = 0
+countsIn i b Reset = 0
+countsIn i b (GetOutputState channel) = 0
+countsIn i b (GetChannelCount channel) = 0
+countsIn i b (DoesChannelRetrigger channel) = 0
+countsIn i b (IsDirty channel) = 0
+countsIn i b GetTimerAccum = 0
+countsIn i b (WorkOff stated events place) = takenIn i b (madeBy (step b (WorkOff stated events place) .reply))
 
--- the sum over a list
-abbrev pub countsOn : ℕ → List Operation → ℕ
-countsOn i [] = 0
-countsOn i (o ∷ os) = countsIn i o + countsOn i os
+-- the sum over a list, from a board on
+abbrev pub countsOn : ℕ → Board → List Operation → ℕ
+countsOn i b [] = 0
+countsOn i b (o ∷ os) = countsIn i b o + countsOn i (step b o .board) os

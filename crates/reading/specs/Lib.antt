@@ -6,3 +6,4 @@ pub mod Spelling
 pub mod Word
 pub mod ReadCount
 pub mod Promise
+pub mod ByHand

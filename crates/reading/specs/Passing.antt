@@ -1,13 +1,21 @@
 -- Demand 3, what may come between the steps of a reading: "further counts after the latch, gate changes, data writes to it, and anything on the other channels; no
--- other command, load cycle, read or reset touches it."
-use Prim.Native.Nat.{ℕ}
+-- other command, load cycle, read or reset touches it."; and by 02, L1, ticks worked off: before the latch none that loads the channel, after it any.
+use Prim.Native.Nat.{ℕ, _<_}
+use mathlib.Core.Bool.{false}
 use mathlib.Core.List.{List, [], _∷_}
 use mathlib.Core.Path.{_≡_}
+use Rattle.numbers.specs.Times.{times}
 use Rattle.control.specs.Control.{commandOf}
+use Rattle.tick.specs.Loads.{loads}
+use Rattle.board.specs.declared.Board.{Board}
+use Rattle.board.specs.Board.{channelAt}
 use Rattle.ports.specs.declared.port.Port.{Port}
 use Rattle.ports.specs.declared.port.Port.the-variants as port
 use Rattle.ports.specs.Port.{portOf}
-use Rattle.step.specs.Operation.{Operation, WritePort, ReadPort, SetChannelGate, Counts, LoadCycle, CatchUp, Run, Reset, GetOutputState, GetChannelCount, DoesChannelRetrigger, IsDirty, GetTimerAccum}
+use Rattle.owed.specs.BoardTick.{boardTick}
+use Rattle.step.specs.Operation.{Operation, WritePort, ReadPort, SetChannelGate, Counts, LoadCycle, CatchUp, Run, Reset, GetOutputState, GetChannelCount, DoesChannelRetrigger, IsDirty, GetTimerAccum, WorkOff}
+use Rattle.step.specs.Step.{step}
+use Rattle.step.specs.Owed.{madeBy}
 use Rattle.step.specs.Touched.{CommandTouches, ReadTouches}
 
 -- a data byte to any channel; a control byte that neither latches channel i nor sets its mode. (An unknown port is refused, so no accepted call is one.)
@@ -31,7 +39,34 @@ MayPass i (GetChannelCount channel) = Unit
 MayPass i (DoesChannelRetrigger channel) = Unit
 MayPass i (IsDirty channel) = Unit
 MayPass i GetTimerAccum = Unit
+MayPass i (WorkOff stated events place) = Unit
 
 abbrev pub AllMayPass : ℕ → List Operation → Type 0
 AllMayPass i [] = Unit
 AllMayPass i (o ∷ os) = MayPass i o × AllMayPass i os
+
+-- 02, L1: demand 3 "holds between load cycles": none of the next ticks of the board, so many, loads channel i
+abbrev pub Unloaded : ℕ → Board → ℕ → Type 0
+Unloaded i b ticks = (k : ℕ) → k < ticks → loads (b .model) (channelAt (times k boardTick b) i) ≡ false
+
+-- .. none that an operation makes. (A load cycle made by hand may not pass at all.)
+abbrev pub NoLoad : ℕ → Board → Operation → Type 0
+NoLoad i b (WritePort port byte events place) = Unit
+NoLoad i b (ReadPort port) = Unit
+NoLoad i b (SetChannelGate channel level events place) = Unit
+NoLoad i b (Counts channel number) = Unit
+NoLoad i b (LoadCycle channel) = Unit
+NoLoad i b (CatchUp given) = Unit
+NoLoad i b (Run given) = Unit
+NoLoad i b Reset = Unit
+NoLoad i b (GetOutputState channel) = Unit
+NoLoad i b (GetChannelCount channel) = Unit
+NoLoad i b (DoesChannelRetrigger channel) = Unit
+NoLoad i b (IsDirty channel) = Unit
+NoLoad i b GetTimerAccum = Unit
+NoLoad i b (WorkOff stated events place) = Unloaded i b (madeBy (step b (WorkOff stated events place) .reply))
+
+-- .. none of a list's, from a board on
+abbrev pub NoLoads : ℕ → Board → List Operation → Type 0
+NoLoads i b [] = Unit
+NoLoads i b (o ∷ os) = NoLoad i b o × NoLoads i (step b o .board) os

@@ -11,9 +11,9 @@ use Rattle.step.specs.Operation.{Operation}
 use Rattle.step.specs.Step.{steps}
 use Rattle.step.specs.Accepted.{AllAccepted}
 use Rattle.reading.specs.Beginning.{mayBegin, Begins}
-use Rattle.reading.specs.Passing.{AllMayPass}
+use Rattle.reading.specs.Passing.{AllMayPass, NoLoads}
 use Rattle.reading.specs.Counts.{countsOn}
-use Rattle.reading.specs.Reading.{threeCalls, Reading, countsMade, countsInAll, atEnd, firstReply, secondReply}
+use Rattle.reading.specs.Reading.{threeCalls, Reading, countsMade, NoLaterLoads, countsInAll, atEnd, firstReply, secondReply}
 use Rattle.reading.specs.Spelling.{modulus, remaining, Spells}
 use Rattle.reading.specs.ReadCount.{readCount}
 
@@ -34,16 +34,17 @@ NeverAlike =
     → secondReply reading ≡ secondReply other
     → ⊥
 
--- One reading after another: at its end the next may begin, from v less all counts, those after the latch included.
+-- One reading after another: at its end the next may begin, from v less all counts, those after the latch included, if no tick after the latch loaded the channel either.
 abbrev pub BeginsAgain : Type 0
 BeginsAgain =
-    (b : Board) (i : ℕ) (bcd : Bool) (v : ℕ) (reading : Reading b i bcd v) → Begins (atEnd reading) i bcd (remaining bcd v (countsInAll reading))
+    (b : Board) (i : ℕ) (bcd : Bool) (v : ℕ) (reading : Reading b i bcd v) → NoLaterLoads reading
+    → Begins (atEnd reading) i bcd (remaining bcd v (countsInAll reading))
 
 -- The same promise of one call of the library, `read_count`: after n counts, whatever else passes, it answers v - n ..
 abbrev pub CountsThenReads : Type 0
 CountsThenReads =
-    (b : Board) (i : ℕ) (bcd : Bool) (v : ℕ) → Begins b i bcd v → (os : List Operation) → AllMayPass i os → AllAccepted b os
-    → readCount (steps b os) i .reply ≡ accepted (remaining bcd v (countsOn i os))
+    (b : Board) (i : ℕ) (bcd : Bool) (v : ℕ) → Begins b i bcd v → (os : List Operation) → AllMayPass i os → NoLoads i b os → AllAccepted b os
+    → readCount (steps b os) i .reply ≡ accepted (remaining bcd v (countsOn i b os))
 
 -- .. and wherever it answers a count it leaves the board as the latch and the two reads leave it
 abbrev pub AsThreeCalls : Type 0

@@ -12,7 +12,7 @@ use Rattle.step.specs.Operation.{Operation, WritePort, ReadPort}
 use Rattle.step.specs.Step.{step, steps}
 use Rattle.step.specs.Accepted.{AllAccepted}
 use Rattle.reading.specs.Beginning.{Begins}
-use Rattle.reading.specs.Passing.{AllMayPass}
+use Rattle.reading.specs.Passing.{AllMayPass, NoLoads}
 use Rattle.reading.specs.Counts.{countsOn}
 
 -- a read of channel i's data port
@@ -42,6 +42,7 @@ pub record Reading (b : Board) (i : ℕ) (bcd : Bool) (v : ℕ) : Type 0 where
   pub after : List Operation
   pub between : List Operation
   pub before-may : AllMayPass i before
+  pub no-loads : NoLoads i b before
   pub latches : commandOf latchByte ≡ LatchCount i
   pub after-may : AllMayPass i after
   pub between-may : AllMayPass i between
@@ -53,11 +54,7 @@ module _ {b : Board} {i : ℕ} {bcd : Bool} {v : ℕ} (reading : Reading b i bcd
 
   -- n
   abbrev pub countsMade : ℕ
-  countsMade = countsOn i (reading .before)
-
-  -- all counts that were made on the channel, those after the latch too
-  abbrev pub countsInAll : ℕ
-  countsInAll = countsOn i (reading .before) + countsOn i (reading .after) + countsOn i (reading .between)
+  countsMade = countsOn i b (reading .before)
 
   -- the board when the turn of the first read comes, and of the second
   abbrev pub atFirst : Board
@@ -76,3 +73,18 @@ module _ {b : Board} {i : ℕ} {bcd : Bool} {v : ℕ} (reading : Reading b i bcd
 
   abbrev pub secondReply : Reply Value
   secondReply = step atSecond (readOf i) .reply
+
+  -- what follows the latch: the board behind it, and behind the first read
+  abbrev pub atLatch : Board
+  atLatch = steps b (reading .before ++ latch ∷ [])
+
+  abbrev pub atFirstRead : Board
+  atFirstRead = step atFirst (readOf i) .board
+
+  -- none of the ticks that came after the latch loaded the channel
+  abbrev pub NoLaterLoads : Type 0
+  NoLaterLoads = NoLoads i atLatch (reading .after) × NoLoads i atFirstRead (reading .between)
+
+  -- all counts that were made on the channel, those after the latch too
+  abbrev pub countsInAll : ℕ
+  countsInAll = countsOn i b (reading .before) + countsOn i atLatch (reading .after) + countsOn i atFirstRead (reading .between)
