@@ -1,6 +1,5 @@
 -- One tick of the board: docs/TICK.md, "The board".
 use Prim.Native.Nat.{ℕ, _-_}
-use mathlib.Core.Bool.{Bool}
 use mathlib.Core.List.{[], _∷_}
 use Rattle.channel.specs.declared.Channel.{Channel}
 use Rattle.event.specs.declared.Event.{Event}

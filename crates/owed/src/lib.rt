@@ -8,13 +8,13 @@ use event::Event;
 use event::Placed;
 use refusal::Refusal;
 use time::TimerTicks;
-ghost use mathlib.Core.Bool.{not};
 ghost use mathlib.Core.Path.{_≡_};
-ghost use Prim.Native.Nat.{_≤_, _+_};
+ghost use mathlib.Core.List.{List};
+ghost use Prim.Native.Nat.{ℕ, _≤_, _+_};
 ghost use lib.ListN.{length};
 ghost use Rattle.board.specs.Answer.{outcome};
 ghost use Rattle.event.specs.Event.{eventOf};
-ghost use Rattle.owed.specs.Worked.{size, put, workOff};
+ghost use Rattle.owed.specs.Worked.{size, put, workOn, begun, report, workOff};
 
 // The event of a channel that a tick takes from one record to another.
 fn tick_event(n: u8, old: Channel, new: Channel) -> Event
@@ -47,17 +47,34 @@ fn put_event(events: &mut [u8], place: usize, event: Event) -> usize
     }
 }
 
-// At most the stated number of the ticks that are owed, each with all of its events or not at all. Refusals 7 and 15. One loop owns the board: no part of it
-// takes one.
-pub fn work_off(b: Board, stated: u32, events: &mut [u8], place: usize) -> Answered
-    ensures { λ r. ⌜ outcome r (now (events .exit)) ≡ workOff b stated (now (events .entry)) place ⌝ }
+// The events of a tick, in channel order, written where there is room for all of them: the new place.
+fn put_events(events: &mut [u8], place: usize, e0: Event, e1: Event, e2: Event) -> usize
+    requires { ⌜ place + (size e0 + size e1 + size e2) ≤ length (now events) ⌝ }
+    ensures { λ r. ⌜ record { bytes = now (events .exit); place = r } ≡ put e2 (put e1 (put e0 (record { bytes = now (events .entry); place = place }))) ⌝ }
 {
-    if events.len() < place {
-        return b.refuse(Refusal::PlacePastEnd);
+    let first = put_event(events, place, e0);
+    let second = put_event(events, first, e1);
+    put_event(events, second, e2)
+}
+
+// The answer of work done.
+fn worked(board: Board, made: u32, place: usize) -> Answered
+    ensures { λ r. ⌜ ((bytes : List ℕ) → outcome r bytes ≡ report (record { made = made; board = board; room = record { bytes = bytes; place = place } })) ⌝ }
+{
+    Answered {
+        answer: Answer::Worked(Worked {
+            made: TimerTicks(made),
+            place,
+        }),
+        board,
     }
-    if 65536 < stated {
-        return b.refuse(Refusal::TooManyTicks);
-    }
+}
+
+// One loop owns the board and changes it where it stands: nothing that a turn calls takes or hands back a board.
+fn work_on(b: Board, stated: u32, events: &mut [u8], place: usize) -> Answered
+    requires { ⌜ place ≤ length (now events) ⌝ }
+    ensures { λ r. ⌜ outcome r (now (events .exit)) ≡ report (workOn stated (begun b (now (events .entry)) place)) ⌝ }
+{
     let mut board = b;
     let mut made: u32 = 0;
     let mut at = place;
@@ -79,26 +96,27 @@ pub fn work_off(b: Board, stated: u32, events: &mut [u8], place: usize) -> Answe
         if events.len() - at < size(e0) + size(e1) + size(e2) {
             return worked(board, made, at);
         }
-        at = put_event(events, at, e0);
-        at = put_event(events, at, e1);
-        at = put_event(events, at, e2);
+        at = put_events(events, at, e0, e1, e2);
         board.channels[0] = t0;
         board.channels[1] = t1;
         board.channels[2] = t2;
-        board.owed = TimerTicks(owed.0 - 1);
+        let fewer = owed.0 - 1;
+        let left = TimerTicks(fewer);
+        board.owed = left;
         made += 1;
     }
     worked(board, made, at)
 }
 
-// The answer of work done.
-fn worked(board: Board, made: u32, place: usize) -> Answered
+// At most the stated number of the ticks that are owed, each with all of its events or not at all. Refusals 7 and 15.
+pub fn work_off(b: Board, stated: u32, events: &mut [u8], place: usize) -> Answered
+    ensures { λ r. ⌜ outcome r (now (events .exit)) ≡ workOff b stated (now (events .entry)) place ⌝ }
 {
-    Answered {
-        answer: Answer::Worked(Worked {
-            made: TimerTicks(made),
-            place,
-        }),
-        board,
+    if events.len() < place {
+        return b.refuse(Refusal::PlacePastEnd);
     }
+    if 65536 < stated {
+        return b.refuse(Refusal::TooManyTicks);
+    }
+    work_on(b, stated, events, place)
 }

@@ -1,0 +1,4 @@
+pub mod Puts
+pub mod Working
+pub mod Tells
+pub mod WorkedOff
