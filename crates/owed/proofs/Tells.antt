@@ -36,7 +36,7 @@ all-behind b written rest =
     let written₂ = written₁ ++ eventBytes e₁ in
     let bytes : written₂ ++ eventBytes e₂ ≡ written ++ tickBytes b = simp append-assoc in
     let left : drop (size e₂) (drop (size e₁) (drop (size e₀) rest)) ≡ drop (length (tickBytes b)) rest =
-            ap (drop (size e₂)) (drop-drop (size e₁) (size e₀) rest) ∙ drop-drop (size e₂) (size e₀ + size e₁) rest ∙ ap (λ k. drop k rest) (sym (tick-size b)) in
+    ap (drop (size e₂)) (drop-drop (size e₁) (size e₀) rest) ∙ drop-drop (size e₂) (size e₀ + size e₁) rest ∙ ap (λ k. drop k rest) (sym (tick-size b)) in
     ap (λ (r : Room). put e₂ (put e₁ r)) (put-behind e₀ written rest)
     ∙ ap (put e₂) (put-behind e₁ written₁ (drop (size e₀) rest))
     ∙ put-behind e₂ written₂ (drop (size e₁) (drop (size e₀) rest))

@@ -83,7 +83,8 @@ module _ (b : Board) (events : List ℕ) (place : ℕ) (inside : place ≤ lengt
         ∙ ap (λ (d : Board). allBytes (w .made) b ++ tickBytes d) (sym (t .board-is))
 
     behind-more : behind b place (w .made + 1) ≡ behind b place (w .made) + length (tickBytes (w .board))
-    behind-more = let more : length (allBytes (w .made + 1) b) ≡ length (allBytes (w .made) b) + length (tickBytes (w .board)) = ap length bytes-more ∙ length-append (allBytes (w .made) b) (tickBytes (w .board)) in
+    behind-more =
+        let more : length (allBytes (w .made + 1) b) ≡ length (allBytes (w .made) b) + length (tickBytes (w .board)) = ap length bytes-more ∙ length-append (allBytes (w .made) b) (tickBytes (w .board)) in
         omega arith
 
     goes-on : (w .board .owed .0 ≡ 0 → ⊥) → needed (w .board) ≤ length (w .room .bytes) - w .room .place → Telling b events place (oneMore w)
@@ -91,9 +92,9 @@ module _ (b : Board) (events : List ℕ) (place : ℕ) (inside : place ≤ lengt
         let made = w .made in
         let written = take place events ++ allBytes made b in
         let bytes : written ++ tickBytes (w .board) ≡ take place events ++ allBytes (made + 1) b =
-                append-assoc (take place events) (allBytes made b) (tickBytes (w .board)) ∙ ap (λ (l : List ℕ). take place events ++ l) (sym bytes-more) in
+        append-assoc (take place events) (allBytes made b) (tickBytes (w .board)) ∙ ap (λ (l : List ℕ). take place events ++ l) (sym bytes-more) in
         let left : drop (length (tickBytes (w .board))) (drop (behind b place made) events) ≡ drop (behind b place (made + 1)) events =
-                drop-drop (length (tickBytes (w .board))) (behind b place made) events ∙ ap (λ k. drop k events) (sym behind-more) in
+        drop-drop (length (tickBytes (w .board))) (behind b place made) events ∙ ap (λ k. drop k events) (sym behind-more) in
         record {
           board-is = ap boardTick (t .board-is) ∙ ap (λ k. times k boardTick b) (sym (add-one made));
           fewer-owed = omega (arith, ticked-owed (w .board), t .fewer-owed, some);

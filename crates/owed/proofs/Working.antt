@@ -122,7 +122,7 @@ module _ {b : Board} {stated : ℕ} {events : List ℕ} {place made : ℕ} {boar
       let last : length bytes₁ ≡ length bytes = ap (λ (r : Room). length (r .bytes)) is ∙ room .0 in
       let to : at₁ ≡ at + needed board = ap (λ (r : Room). r .place) is ∙ room .1 in
       let next : work (made + 1) board₁ bytes₁ at₁ ≡ oneMore (work made board bytes at) =
-              ap₂ (λ (d : Board) (r : Room). record { made = made + 1; board = d; room = r }) ticked is in
+      ap₂ (λ (d : Board) (r : Room). record { made = made + 1; board = d; room = r }) ticked is in
       record {
         few = omega arith;
         same-end = ap (workOn (stated - (made + 1))) next ∙ sym (rw one (simp goes)) ∙ w .same-end;
