@@ -1,6 +1,7 @@
--- What k counts come to for a reading, with other calls among them: the counting element k steps on, and nothing disturbed that a read goes by. Assumes nothing.
+-- What k counts come to for a reading, made by hand or by ticks and with other calls among them: nothing disturbed that a read goes by, and, where no tick loaded, the
+-- counting element k steps on. Assumes nothing.
 use Prim.Native.Nat.{ℕ, _+_}
-use mathlib.Core.Bool.{true}
+use mathlib.Core.Bool.{true, false}
 use mathlib.Core.Path.{_≡_, refl, sym, ap, _∙_}
 use native.Mathlib.Nat.{add-comm}
 use Rattle.numbers.specs.Times.{times}
@@ -8,11 +9,17 @@ use Rattle.numbers.proofs.Times.{times-add}
 use Rattle.channel.specs.declared.Channel.{Channel}
 use Rattle.channel.specs.declared.ControlWord.{ControlWord}
 use Rattle.channel.specs.declared.Latch.{Latch}
+use Rattle.channel.specs.declared.PitType.{PitType}
 use Rattle.channel.specs.Kept.{Kept}
 use Rattle.count.specs.Step.{stepIn}
 use Rattle.count.specs.Count.{count}
 use Rattle.count.proofs.Repeated.{control-kept, element-after}
 use Rattle.count.proofs.Held.{held-after, latched-after, half-after}
+use Rattle.tick.specs.Taken.{taken}
+use Rattle.tick.specs.Loads.{loads}
+use Rattle.tick.specs.Tick.{tick}
+use Rattle.tick.proofs.Keeps.{tick-keeps}
+use Rattle.tick.proofs.Counted.{counted-element}
 use Rattle.reading.specs.Beginning.{mayBegin}
 use Rattle.reading.proofs.May.{not-latched, low-then-high, no-half-read, may-begin}
 
@@ -38,19 +45,20 @@ undisturbed-may c d p may =
     may-begin d (p .same-latched ∙ not-latched c may) (ap (λ (w : ControlWord). w .«rw_mode») (p .same-control) ∙ low-then-high c may)
     (p .same-half ∙ no-half-read c may)
 
-pub record Counted (k : ℕ) (c d : Channel) : Type 0 where
+-- k counts, if what is said of loads holds; undisturbed in any case
+pub record Counted (unloaded : Type 0) (k : ℕ) (c d : Channel) : Type 0 where
   pub undisturbed : Undisturbed c d
-  pub stepped : d .counter .«counting_element» ≡ times k (stepIn (c .control .«bcd_mode»)) (c .counter .«counting_element»)
+  pub stepped : unloaded → d .counter .«counting_element» ≡ times k (stepIn (c .control .«bcd_mode»)) (c .counter .«counting_element»)
 
-pub counted-none : (c : Channel) → Counted 0 c c
+pub counted-none : (c : Channel) → Counted Unit 0 c c
 counted-none c =
     record {
       undisturbed = record { same-control = refl; same-half = refl; same-latched = refl; still-held = λ held. refl };
-      stepped = refl;
+      stepped = λ unloaded. refl;
     }
 
 -- what keeps the count and the latch makes no count
-pub counted-kept : {c d : Channel} → Kept c d → Counted 0 c d
+pub counted-kept : {c d : Channel} → Kept c d → Counted Unit 0 c d
 counted-kept p =
     record {
       undisturbed = record {
@@ -59,20 +67,24 @@ counted-kept p =
         same-latched = ap (λ (l : Latch). l .«count_is_latched») (p .latch-kept);
         still-held = λ held. p .latch-kept;
       };
-      stepped = p .element-kept;
+      stepped = λ unloaded. p .element-kept;
     }
 
-pub counted-then : (j k : ℕ) {c d e : Channel} → Counted j c d → Counted k d e → Counted (j + k) c e
+pub counted-when : {A B : Type 0} {k : ℕ} {c d : Channel} → (B → A) → Counted A k c d → Counted B k c d
+counted-when so p = record { undisturbed = p .undisturbed; stepped = λ unloaded. p .stepped (so unloaded) }
+
+pub counted-then : {A B : Type 0} (j k : ℕ) {c d e : Channel} → Counted A j c d → Counted B k d e → Counted (A × B) (j + k) c e
 counted-then j k {c} {d} {e} p q =
     record {
       undisturbed = undisturbed-then (p .undisturbed) (q .undisturbed);
       stepped =
-          q .stepped
-          ∙ rw (p .undisturbed .same-control, p .stepped, add-comm j k)
+          λ unloaded.
+          q .stepped (unloaded .1)
+          ∙ rw (p .undisturbed .same-control, p .stepped (unloaded .0), add-comm j k)
           (sym (times-add k j (stepIn (c .control .«bcd_mode»)) (c .counter .«counting_element»)));
     }
 
-pub counted-counts : (k : ℕ) (c : Channel) → Counted k c (times k count c)
+pub counted-counts : (k : ℕ) (c : Channel) → Counted Unit k c (times k count c)
 counted-counts k c =
     record {
       undisturbed = record {
@@ -81,5 +93,19 @@ counted-counts k c =
         same-latched = latched-after k c;
         still-held = held-after k c;
       };
-      stepped = element-after k c;
+      stepped = λ unloaded. element-after k c;
+    }
+
+-- "a tick that takes k from a channel being k counts of it", unless it loads
+pub counted-tick : (model : PitType) (c : Channel) → Counted (loads model c ≡ false) (taken c) c (tick model c)
+counted-tick model c =
+    let kept = tick-keeps model c in
+    record {
+      undisturbed = record {
+        same-control = kept .control-kept;
+        same-half = kept .half-kept;
+        same-latched = kept .latched-kept;
+        still-held = kept .held-kept;
+      };
+      stepped = λ unloaded. counted-element model c unloaded ∙ element-after (taken c) c;
     }

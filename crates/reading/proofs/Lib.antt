@@ -1,5 +1,7 @@
 pub mod May
 pub mod Counted
+pub mod Ticked
+pub mod Worked
 pub mod Spelling
 pub mod Stands
 pub mod Holds
@@ -9,5 +11,6 @@ pub mod Turns
 pub mod Reading
 pub mod ThreeCalls
 pub mod Promise
+pub mod ByHand
 pub mod Beginnings
 pub mod Apart

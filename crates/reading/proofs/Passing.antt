@@ -1,4 +1,4 @@
--- What may pass makes the counts that it says on channel i, and no others. Assumes nothing.
+-- What may pass disturbs nothing that a read of channel i goes by, and makes on it, where no tick loads it, the counts that are said and no others. Assumes nothing.
 use Prim.Native.Nat.{ℕ, _<_}
 use mathlib.Core.Bool.{Bool, true, false, cond}
 use mathlib.Core.List.{List, [], _∷_}
@@ -18,7 +18,7 @@ use Rattle.gate.proofs.Keeps.{gate-keeps}
 use Rattle.board.specs.declared.Board.{Board}
 use Rattle.board.specs.Board.{channelAt, withChannel}
 use Rattle.board.proofs.Channels.{put-found, not-above, by-channel}
-use Rattle.board.specs.Outcome.{Outcome, Value, done, refuse, accept, onChannel}
+use Rattle.board.specs.Outcome.{Outcome, Value, done, refuse, accept, onChannel, unlessOwed}
 use Rattle.board.specs.Counting.{counts}
 use Rattle.board.specs.Queries.{isDirty}
 use Rattle.ports.specs.declared.port.Port.{Port}
@@ -28,16 +28,20 @@ use Rattle.ports.specs.Settle.{settle}
 use Rattle.ports.proofs.Settled.{settle-holds}
 use Rattle.ports.specs.Gates.{setChannelGate}
 use Rattle.ports.specs.Writes.{writeTo, writePort}
+use Rattle.owed.specs.BoardTick.{boardTick}
 use Rattle.step.specs.Operation.{Operation, WritePort, ReadPort, SetChannelGate, Counts, LoadCycle, CatchUp, Run, Reset, GetOutputState, GetChannelCount, DoesChannelRetrigger, IsDirty, GetTimerAccum, WorkOff}
 use Rattle.step.specs.Step.{step, steps}
 use Rattle.step.specs.Accepted.{AllAccepted}
 use Rattle.step.specs.Touched.{Touches}
 use Rattle.refusal.proofs.Apart.{refused-not}
+use Rattle.step.proofs.Owing.{by-owed}
 use Rattle.step.proofs.Three.{step-three}
 use Rattle.step.proofs.Touched.{write-stays, untouched-stays}
-use Rattle.reading.specs.Passing.{MayWrite, MayPass, AllMayPass}
-use Rattle.reading.specs.Counts.{countsIn, countsOn}
+use Rattle.reading.specs.Passing.{MayWrite, MayPass, AllMayPass, Unloaded, NoLoad, NoLoads}
+use Rattle.reading.specs.Counts.{takenIn, countsIn, countsOn}
 use Rattle.reading.proofs.Counted.{Counted, counted-none, counted-kept, counted-then, counted-counts}
+use Rattle.reading.proofs.Ticked.{ticks-counted}
+use Rattle.reading.proofs.Worked.{ticks-made}
 
 -- channel n is the one that is read, or another
 by-same : (i n : ℕ) (P : Type 0) → (n ≡ i → P) → ((i ≡ n → ⊥) → P) → P
@@ -49,20 +53,23 @@ by-same i n P same other = go (eqb n i) refl
 
 module _ (b : Board) (three : length (b .channels) ≡ 3) (i : ℕ) (on : i < 3) where
   abbrev After : ℕ → Outcome → Type 0
-  After k outcome = Counted k (channelAt b i) (channelAt (outcome .board) i)
+  After k outcome = Counted Unit k (channelAt b i) (channelAt (outcome .board) i)
 
-  put-counted : (k : ℕ) (c : Channel) → Counted k (channelAt b i) c → Counted k (channelAt b i) (channelAt (withChannel b i c) i)
-  put-counted k c p = subst (λ (d : Channel). Counted k (channelAt b i) d) (sym (put-found b three i on c)) p
+  put-counted : (k : ℕ) (c : Channel) → Counted Unit k (channelAt b i) c → Counted Unit k (channelAt b i) (channelAt (withChannel b i c) i)
+  put-counted k c p = subst (λ (d : Channel). Counted Unit k (channelAt b i) d) (sym (put-found b three i on c)) p
 
   stays-counted : (outcome : Outcome) → channelAt (outcome .board) i ≡ channelAt b i → After 0 outcome
-  stays-counted outcome stays = subst (λ (d : Channel). Counted 0 (channelAt b i) d) (sym stays) (counted-none (channelAt b i))
+  stays-counted outcome stays = subst (λ (d : Channel). Counted Unit 0 (channelAt b i) d) (sym stays) (counted-none (channelAt b i))
 
   leaves : (o : Operation) → (Touches o i → ⊥) → After 0 (step b o)
   leaves o other = stays-counted (step b o) (untouched-stays b i o other)
 
-  settled : (c : Channel) (events : List ℕ) (place : ℕ) → Counted 0 (channelAt b i) c → After 0 (settle b i c events place)
+  -- a call that is refused while ticks are owed
+  settled : (c : Channel) (events : List ℕ) (place : ℕ) → Counted Unit 0 (channelAt b i) c → After 0 (unlessOwed b events (settle b i c events place))
   settled c events place p =
-      settle-holds b events place i c (λ (d : Board). Counted 0 (channelAt b i) (channelAt d i)) (counted-none (channelAt b i)) (put-counted 0 c p)
+      by-owed (After 0) b events (settle b i c events place) (λ owes. counted-none (channelAt b i))
+      (λ none.
+      settle-holds b events place i c (λ (d : Board). Counted Unit 0 (channelAt b i) (channelAt d i)) (counted-none (channelAt b i)) (put-counted 0 c p))
 
   on-channel : (events : List ℕ) (outcome : Outcome) → After 0 outcome → After 0 (onChannel b i events outcome)
   on-channel events outcome p = by-channel (After 0) b i events outcome (counted-none (channelAt b i)) (λ on. p)
@@ -115,7 +122,14 @@ module _ (b : Board) (three : length (b .channels) ≡ 3) (i : ℕ) (on : i < 3)
       (counts-here number value (subst (λ (m : ℕ). counts b m number .reply ≡ accepted value) is took))
   counts-passes n number false e value took = leaves (Counts n number) (λ is. eqb-false n i e (sym is))
 
-  pub passes : (o : Operation) → MayPass i o → (value : Value) × (step b o .reply ≡ accepted value) → After (countsIn i o) (step b o)
+  -- ticks worked off, so many
+  work-passes : (made : ℕ) (outcome : Outcome) → outcome .board ≡ times made boardTick b
+      → Counted (Unloaded i b made) (takenIn i b made) (channelAt b i) (channelAt (outcome .board) i)
+  work-passes made outcome is =
+      subst (λ (d : Board). Counted (Unloaded i b made) (takenIn i b made) (channelAt b i) (channelAt d i)) (sym is) (ticks-counted b i on made)
+
+  pub passes : (o : Operation) → MayPass i o → (value : Value) × (step b o .reply ≡ accepted value)
+      → Counted (NoLoad i b o) (countsIn i b o) (channelAt b i) (channelAt (step b o .board) i)
   unfolding writePort
   passes (WritePort port byte events place) may took = write-passes (portOf port) byte events place may
   passes (ReadPort port) may took = leaves (ReadPort port) may
@@ -130,10 +144,11 @@ module _ (b : Board) (three : length (b .channels) ≡ 3) (i : ℕ) (on : i < 3)
   passes (DoesChannelRetrigger n) may took = leaves (DoesChannelRetrigger n) (λ none. none)
   passes (IsDirty n) may took = dirty-passes n
   passes GetTimerAccum may took = leaves GetTimerAccum (λ none. none)
+  passes (WorkOff stated events place) may took = work-passes _ (step b (WorkOff stated events place)) (ticks-made b stated events place)
 
 pub all-pass : (b : Board) → length (b .channels) ≡ 3 → (i : ℕ) → i < 3 → (os : List Operation) → AllMayPass i os → AllAccepted b os
-    → Counted (countsOn i os) (channelAt b i) (channelAt (steps b os) i)
+    → Counted (NoLoads i b os) (countsOn i b os) (channelAt b i) (channelAt (steps b os) i)
 all-pass b three i on [] may took = counted-none (channelAt b i)
 all-pass b three i on (o ∷ os) may took =
-    counted-then (countsIn i o) (countsOn i os) (passes b three i on o (may .0) (took .0))
+    counted-then (countsIn i b o) (countsOn i (step b o .board) os) (passes b three i on o (may .0) (took .0))
     (all-pass (step b o .board) (step-three b three o) i on os (may .1) (took .1))

@@ -1,22 +1,26 @@
 -- Demand 3 and what goes with it (specs/Promise.antt). Assumes nothing.
-use Prim.Native.Nat.{ℕ, _*_}
-use mathlib.Core.Bool.{Bool}
+use Prim.Native.Nat.{ℕ, _*_, _<_}
+use mathlib.Core.Bool.{Bool, true}
 use mathlib.Core.List.{[]}
-use mathlib.Core.Path.{_≡_, sym}
+use mathlib.Core.Path.{_≡_, sym, _∙_}
+use lib.ListN.{length-set}
 use Rattle.refusal.specs.Reply.{accepted}
 use Rattle.control.proofs.Named.{latch-byte}
 use Rattle.board.specs.declared.Board.{Board}
-use Rattle.board.proofs.Channels.{not-above}
+use Rattle.board.specs.Board.{channelAt, withChannel}
+use Rattle.board.proofs.Channels.{put-found, not-above}
 use Rattle.step.specs.Step.{step, steps}
-use Rattle.reading.specs.Beginning.{Begins}
+use Rattle.reading.specs.Beginning.{mayBegin, Begins}
 use Rattle.reading.specs.Counts.{countsOn}
 use Rattle.reading.specs.Reading.{readOf, latchOf, Reading, countsMade, firstReply, secondReply}
 use Rattle.reading.specs.Spelling.{remaining}
+use Rattle.reading.specs.Word.{readWord}
 use Rattle.reading.specs.ReadCount.{readCount}
 use Rattle.reading.specs.Promise.{ReadsTheCount, NeverAlike, BeginsAgain, CountsThenReads, AsThreeCalls, ReadsAndBegins}
-use Rattle.reading.proofs.Spelling.{left-none, left-apart, spelled-once}
+use Rattle.reading.proofs.Spelling.{left-apart, spelled-once}
+use Rattle.reading.proofs.Stands.{Stands}
 use Rattle.reading.proofs.Reading as steps-of
-use Rattle.reading.proofs.ThreeCalls.{latch-taken, three-calls}
+use Rattle.reading.proofs.ThreeCalls.{word-may, word-stands, latch-taken, three-calls}
 use Rattle.reading.proofs.Turns.{read-reply}
 use Rattle.reading.proofs.After.{begins-after}
 
@@ -30,7 +34,7 @@ never-alike bcd v b i reading c j other few fewer differ first second =
     (spelled-once _ _ (firstReply reading) (secondReply reading) (steps-of.spells reading) (rw (first, second) (steps-of.spells other))))
 
 pub begins-again : BeginsAgain
-begins-again b i bcd v reading = steps-of.begins-again reading
+begins-again b i bcd v reading later = steps-of.begins-again reading later
 
 -- `read_count` where a reading may begin
 begins-reply : (b : Board) (i : ℕ) (bcd : Bool) (v : ℕ) → Begins b i bcd v → readCount b i .reply ≡ accepted v
@@ -38,16 +42,35 @@ unfolding readCount
 begins-reply b i bcd v begins = simp (not-above i (begins .on-board), begins .may, begins .element)
 
 pub counts-then-reads : CountsThenReads
-counts-then-reads b i bcd v begins os may took =
-    begins-reply (steps b os) i bcd (remaining bcd v (countsOn i os)) (begins-after b i bcd v begins os may took)
+counts-then-reads b i bcd v begins os may unloaded took =
+    begins-reply (steps b os) i bcd (remaining bcd v (countsOn i b os)) (begins-after b i bcd v begins os may unloaded took)
+
+begins-board : (b : Board) (i : ℕ) → i < 3 → mayBegin (channelAt b i) ≡ true → readCount b i .board ≡ withChannel b i (readWord (channelAt b i) .channel)
+unfolding readCount
+begins-board b i on may = simp (not-above i on, may)
 
 pub as-three-calls : AsThreeCalls
-unfolding readCount
-as-three-calls b i on three may = simp (not-above i on, may) (sym (three-calls b three i on))
+as-three-calls b i on three none may = begins-board b i on may ∙ sym (three-calls b three i on none)
 
--- the shortest reading, on every channel that a reading may begin on
-pub shortest : (b : Board) (i : ℕ) (bcd : Bool) (v : ℕ) → Begins b i bcd v → Reading b i bcd v
-shortest b i bcd v begins =
+pub reads-and-begins : ReadsAndBegins
+reads-and-begins b i bcd v begins =
+    let c = channelAt b i in
+    let found : channelAt (withChannel b i (readWord c .channel)) i ≡ readWord c .channel = put-found b (begins .three-channels) i (begins .on-board) _ in
+    let s : Stands bcd v (readWord c .channel) = word-stands c (record { in-radix = begins .radix; at = begins .element }) in
+    rw (begins-board b i (begins .on-board) (begins .may))
+    (record {
+      on-board = begins .on-board;
+      may = rw found (word-may c (begins .may));
+      radix = rw found (s .in-radix);
+      element = rw found (s .at);
+      four-digits = begins .four-digits;
+      three-channels = length-set (b .channels) i _ ∙ begins .three-channels;
+      sixteen-bits = begins .sixteen-bits;
+    })
+
+-- the shortest reading, on every channel that a reading may begin on, where no tick is owed
+pub shortest : (b : Board) (i : ℕ) (bcd : Bool) (v : ℕ) → b .owed .0 ≡ 0 → Begins b i bcd v → Reading b i bcd v
+shortest b i bcd v none begins =
     record {
       begins = begins;
       before = [];
@@ -57,20 +80,15 @@ shortest b i bcd v begins =
       after = [];
       between = [];
       before-may = tt;
+      no-loads = tt;
       latches = latch-byte i (begins .on-board);
       after-may = tt;
       between-may = tt;
       all-accepted = (
-        (_, latch-taken b i (begins .on-board)),
+        (_, latch-taken b none i (begins .on-board)),
         (
           (_, read-reply (step b (latchOf i) .board) i (begins .on-board)),
           ((_, read-reply (step (step b (latchOf i) .board) (readOf i) .board) i (begins .on-board)), tt),
         ),
       );
     }
-
-pub reads-and-begins : ReadsAndBegins
-unfolding shortest
-reads-and-begins b i bcd v begins =
-    rw (as-three-calls b i (begins .on-board) (begins .three-channels) (begins .may), ← left-none bcd v (begins .sixteen-bits) (begins .four-digits))
-    (steps-of.begins-again (shortest b i bcd v begins))

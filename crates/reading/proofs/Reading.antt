@@ -2,7 +2,7 @@
 use Prim.Native.Nat.{ℕ, _+_, _<_}
 use mathlib.Core.Bool.{Bool}
 use mathlib.Core.List.{[], _∷_, _++_}
-use mathlib.Core.Path.{_≡_, refl, sym, ap, subst, _∙_}
+use mathlib.Core.Path.{_≡_, refl, sym, ap, ap₂, subst, _∙_}
 use lib.ListN.{length}
 use Rattle.refusal.specs.Reply.{accepted}
 use Rattle.channel.specs.declared.ReadState.the-variants.{NoRead, ReadLsb}
@@ -16,8 +16,9 @@ use Rattle.step.specs.Step.{step, steps}
 use Rattle.step.specs.Accepted.{AllAccepted}
 use Rattle.step.proofs.Three.{step-three, steps-three}
 use Rattle.reading.specs.Beginning.{Begins}
+use Rattle.reading.specs.Passing.{NoLoads}
 use Rattle.reading.specs.Counts.{countsOn}
-use Rattle.reading.specs.Reading.{readOf, Reading, latch, countsMade, countsInAll, atFirst, atSecond, atEnd, firstReply, secondReply}
+use Rattle.reading.specs.Reading.{readOf, Reading, latch, countsMade, countsInAll, NoLaterLoads, atLatch, atFirst, atFirstRead, atSecond, atEnd, firstReply, secondReply}
 use Rattle.reading.specs.Spelling.{remaining, Spells}
 use Rattle.reading.proofs.Counted.{Counted}
 use Rattle.reading.proofs.Passing.{all-pass}
@@ -48,8 +49,14 @@ module _ {b : Board} {i : ℕ} {bcd : Bool} {v : ℕ} (reading : Reading b i bcd
   abbrev b5 : Board
   b5 = steps b4 (reading .between)
 
+  at-latch : atLatch reading ≡ b2
+  at-latch = steps-then b (reading .before) (latch reading ∷ [])
+
   at-first : atFirst reading ≡ b3
   at-first = steps-then b (reading .before) (latch reading ∷ reading .after)
+
+  at-first-read : atFirstRead reading ≡ b4
+  at-first-read = ap (λ (d : Board). step d (readOf i) .board) at-first
 
   at-second : atSecond reading ≡ b5
   at-second =
@@ -72,7 +79,7 @@ module _ {b : Board} {i : ℕ} {bcd : Bool} {v : ℕ} (reading : Reading b i bcd
   -- n counts up to the latch
   begins1 : Begins b1 i bcd (remaining bcd v (countsMade reading))
   begins1 =
-      begins-after b i bcd v (reading .begins) (reading .before) (reading .before-may)
+      begins-after b i bcd v (reading .begins) (reading .before) (reading .before-may) (reading .no-loads)
       (accepted-first b (reading .before) (latch reading ∷ reading .after) up-to-first)
 
   three2 : length (b2 .channels) ≡ 3
@@ -89,11 +96,11 @@ module _ {b : Board} {i : ℕ} {bcd : Bool} {v : ℕ} (reading : Reading b i bcd
       command-turn b1 (begins1 .three-channels) i on (reading .latchByte) (reading .latchEvents) (reading .latchPlace) (LatchCount i) (latchCount (channelAt b1 i)) (reading .latches) refl
       (from-latch .0)
 
-  -- from the latch to the first read, and on to the second, the record holds what was left
+  -- from the latch to the first read, and on to the second, the record holds what was left, whatever ticks come
   holds2 : Holds (remaining bcd v (countsMade reading)) NoRead (channelAt b2 i)
   holds2 = rw (latched2, ← begins1 .element) (latch-holds (channelAt b1 i) (begins1 .may))
 
-  passed3 : Counted (countsOn i (reading .after)) (channelAt b2 i) (channelAt b3 i)
+  passed3 : Counted (NoLoads i b2 (reading .after)) (countsOn i b2 (reading .after)) (channelAt b2 i) (channelAt b3 i)
   passed3 = all-pass b2 three2 i on (reading .after) (reading .after-may) (from-latch .1)
 
   holds3 : Holds (remaining bcd v (countsMade reading)) NoRead (channelAt b3 i)
@@ -102,7 +109,7 @@ module _ {b : Board} {i : ℕ} {bcd : Bool} {v : ℕ} (reading : Reading b i bcd
   holds4 : Holds (remaining bcd v (countsMade reading)) ReadLsb (channelAt b4 i)
   holds4 = rw (read-leaves b3 three3 i on) (first-holds (channelAt b3 i) _ holds3)
 
-  passed5 : Counted (countsOn i (reading .between)) (channelAt b4 i) (channelAt b5 i)
+  passed5 : Counted (NoLoads i b4 (reading .between)) (countsOn i b4 (reading .between)) (channelAt b4 i) (channelAt b5 i)
   passed5 = all-pass b4 three4 i on (reading .between) (reading .between-may) (from-first .1)
 
   holds5 : Holds (remaining bcd v (countsMade reading)) ReadLsb (channelAt b5 i)
@@ -118,36 +125,51 @@ module _ {b : Board} {i : ℕ} {bcd : Bool} {v : ℕ} (reading : Reading b i bcd
         ∙ ap (λ (x : ℕ). accepted (byte x)) (second-byte (channelAt b5 i) _ holds5),
   )
 
-  -- the count goes on under the latch and the reads
-  stands3 : Stands bcd (remaining bcd v (countsOn i (reading .before) + countsOn i (reading .after))) (channelAt b3 i)
-  stands3 =
-      rw (← left-again bcd v (countsMade reading) (countsOn i (reading .after)))
-      (counted-stands (countsOn i (reading .after)) (left-below bcd v (countsMade reading)) (left-good bcd v (countsMade reading)) passed3
-      (rw latched2 (latch-stands (record { in-radix = begins1 .radix; at = begins1 .element }))))
-
-  stands5 : Stands bcd (remaining bcd v (countsInAll reading)) (channelAt b5 i)
-  stands5 =
-      rw (← left-again bcd v (countsOn i (reading .before) + countsOn i (reading .after)) (countsOn i (reading .between)))
-      (counted-stands (countsOn i (reading .between)) (left-below bcd v (countsOn i (reading .before) + countsOn i (reading .after)))
-      (left-good bcd v (countsOn i (reading .before) + countsOn i (reading .after))) passed5
-      (rw (read-leaves b3 three3 i on) (read-stands (channelAt b3 i) stands3)))
-
   three5 : length (b5 .channels) ≡ 3
   three5 = steps-three b4 three4 (reading .between)
 
-  -- the second read leaves the channel as a reading finds it
-  begins-next : Begins (step b5 (readOf i) .board) i bcd (remaining bcd v (countsInAll reading))
-  begins-next =
-      let left : channelAt (step b5 (readOf i) .board) i ≡ readByte (channelAt b5 i) .channel = read-leaves b5 three5 i on in
-      record {
-        on-board = on;
-        may = rw left (second-may (channelAt b5 i) _ holds5);
-        radix = rw left (read-stands (channelAt b5 i) stands5 .in-radix);
-        element = rw left (read-stands (channelAt b5 i) stands5 .at);
-        four-digits = left-good bcd v (countsInAll reading);
-        three-channels = step-three b5 three5 (readOf i);
-        sixteen-bits = left-below bcd v (countsInAll reading);
-      }
+  -- the counts up to the first read, and up to the second
+  abbrev counts3 : ℕ
+  counts3 = countsMade reading + countsOn i b2 (reading .after)
 
-  pub begins-again : Begins (atEnd reading) i bcd (remaining bcd v (countsInAll reading))
-  begins-again = subst (λ (d : Board). Begins (step d (readOf i) .board) i bcd (remaining bcd v (countsInAll reading))) (sym at-second) begins-next
+  abbrev counts5 : ℕ
+  counts5 = counts3 + countsOn i b4 (reading .between)
+
+  counts-in-all : countsInAll reading ≡ counts5
+  counts-in-all =
+      ap₂ (λ (d e : Board). countsMade reading + countsOn i d (reading .after) + countsOn i e (reading .between)) at-latch at-first-read
+
+  -- the count goes on under the latch and the reads, as long as no tick loads
+  module _ (later : NoLaterLoads reading) where
+    stands3 : Stands bcd (remaining bcd v counts3) (channelAt b3 i)
+    stands3 =
+        rw (← left-again bcd v (countsMade reading) (countsOn i b2 (reading .after)))
+        (counted-stands (countsOn i b2 (reading .after)) (left-below bcd v (countsMade reading)) (left-good bcd v (countsMade reading)) passed3
+        (subst (λ (d : Board). NoLoads i d (reading .after)) at-latch (later .0))
+        (rw latched2 (latch-stands (record { in-radix = begins1 .radix; at = begins1 .element }))))
+
+    stands5 : Stands bcd (remaining bcd v counts5) (channelAt b5 i)
+    stands5 =
+        rw (← left-again bcd v counts3 (countsOn i b4 (reading .between)))
+        (counted-stands (countsOn i b4 (reading .between)) (left-below bcd v counts3) (left-good bcd v counts3) passed5
+        (subst (λ (d : Board). NoLoads i d (reading .between)) at-first-read (later .1))
+        (rw (read-leaves b3 three3 i on) (read-stands (channelAt b3 i) stands3)))
+
+    -- the second read leaves the channel as a reading finds it
+    begins-next : Begins (step b5 (readOf i) .board) i bcd (remaining bcd v counts5)
+    begins-next =
+        let left : channelAt (step b5 (readOf i) .board) i ≡ readByte (channelAt b5 i) .channel = read-leaves b5 three5 i on in
+        record {
+          on-board = on;
+          may = rw left (second-may (channelAt b5 i) _ holds5);
+          radix = rw left (read-stands (channelAt b5 i) stands5 .in-radix);
+          element = rw left (read-stands (channelAt b5 i) stands5 .at);
+          four-digits = left-good bcd v counts5;
+          three-channels = step-three b5 three5 (readOf i);
+          sixteen-bits = left-below bcd v counts5;
+        }
+
+    pub begins-again : Begins (atEnd reading) i bcd (remaining bcd v (countsInAll reading))
+    begins-again =
+        subst (λ (d : Board). Begins (step d (readOf i) .board) i bcd (remaining bcd v (countsInAll reading))) (sym at-second)
+        (subst (λ (n : ℕ). Begins (step b5 (readOf i) .board) i bcd (remaining bcd v n)) (sym counts-in-all) begins-next)

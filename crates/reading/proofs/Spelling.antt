@@ -11,15 +11,12 @@ use Rattle.numbers.proofs.Digits.{weight-packed, packed-below, good-packed}
 use Rattle.count.specs.Step.{stepIn}
 use Rattle.count.proofs.Repeated.{binary-times, decimal-times}
 use Rattle.refusal.specs.Reply.{Reply, refused, accepted}
-use Rattle.board.specs.Outcome.{Value, done, newPlace, byte, ticks, outputState, channelCount, retriggers, dirtyMarks, timerAccum}
+use Rattle.board.specs.Outcome.{Value, done, newPlace, byte, ticks, outputState, channelCount, retriggers, dirtyMarks, timerAccum, worked}
 use Rattle.reading.specs.Spelling.{modulus, remaining, Spells}
 
 pub steps-left : (bcd : Bool) (n v : ℕ) → v < 65536 → (bcd ≡ true → GoodDigits v) → times n (stepIn bcd) v ≡ remaining bcd v n
 steps-left false n v h good = binary-times n v h
 steps-left true n v h good = decimal-times n v h (good refl)
-
-pub left-none : (bcd : Bool) (v : ℕ) → v < 65536 → (bcd ≡ true → GoodDigits v) → remaining bcd v 0 ≡ v
-left-none bcd v h good = sym (steps-left bcd 0 v h good)
 
 -- what is left is a count in the same radix, and from it k more counts leave what n + k leave
 pub left-below : (bcd : Bool) (v n : ℕ) → remaining bcd v n < 65536
@@ -54,6 +51,7 @@ byteIn (channelCount register element counting) = 0
 byteIn (retriggers answer) = 0
 byteIn (dirtyMarks dirty counting ticked) = 0
 byteIn (timerAccum left) = 0
+byteIn (worked made p) = 0
 
 abbrev byteOf : Reply Value → ℕ
 byteOf (refused number) = 0

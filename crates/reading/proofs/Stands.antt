@@ -17,12 +17,13 @@ pub record Stands (bcd : Bool) (e : ℕ) (c : Channel) : Type 0 where
   pub in-radix : c .control .«bcd_mode» ≡ bcd
   pub at : c .counter .«counting_element» ≡ e
 
-pub counted-stands : (k : ℕ) {c d : Channel} {bcd : Bool} {e : ℕ} → e < 65536 → (bcd ≡ true → GoodDigits e) → Counted k c d → Stands bcd e c
+pub counted-stands : {A : Type 0} (k : ℕ) {c d : Channel} {bcd : Bool} {e : ℕ} → e < 65536 → (bcd ≡ true → GoodDigits e) → Counted A k c d → A
+    → Stands bcd e c
     → Stands bcd (remaining bcd e k) d
-counted-stands k {c} {d} {bcd} {e} h good p s =
+counted-stands k {c} {d} {bcd} {e} h good p unloaded s =
     record {
       in-radix = ap (λ (w : ControlWord). w .«bcd_mode») (p .undisturbed .same-control) ∙ s .in-radix;
-      at = p .stepped ∙ rw (s .in-radix, s .at) (steps-left bcd k e h good);
+      at = p .stepped unloaded ∙ rw (s .in-radix, s .at) (steps-left bcd k e h good);
     }
 
 pub latch-stands : {c : Channel} {bcd : Bool} {e : ℕ} → Stands bcd e c → Stands bcd e (latchCount c)

@@ -1,6 +1,7 @@
--- Latch and two reads of a channel, as calls of the board and on its record: where a reading may begin, the bytes make up the counting element. Assumes nothing.
+-- Latch and two reads of a channel, as calls of the board and on its record: where a reading may begin, the bytes make up the counting element, and the next may begin
+-- from it. Assumes nothing.
 use Prim.Native.Nat.{ℕ, _<_}
-use mathlib.Core.Bool.{true}
+use mathlib.Core.Bool.{Bool, true}
 use mathlib.Core.List.{[]}
 use mathlib.Core.Path.{_≡_, ap, _∙_}
 use native.Mathlib.Omega.{arith}
@@ -25,7 +26,8 @@ use Rattle.step.specs.Step.{step, steps}
 use Rattle.reading.specs.Reading.{readOf, latchOf, threeCalls}
 use Rattle.reading.specs.Word.{readWord}
 use Rattle.reading.specs.Beginning.{mayBegin}
-use Rattle.reading.proofs.Holds.{Holds, latch-holds, first-byte, first-holds, second-byte}
+use Rattle.reading.proofs.Holds.{Holds, latch-holds, first-byte, first-holds, second-byte, second-may}
+use Rattle.reading.proofs.Stands.{Stands, latch-stands, read-stands}
 use Rattle.reading.proofs.Turns.{read-turn}
 
 module _ (c : Channel) (may : mayBegin c ≡ true) where
@@ -38,6 +40,14 @@ module _ (c : Channel) (may : mayBegin c ≡ true) where
   word-is-element =
       rw (first-byte (latchCount c) _ held, second-byte (readByte (latchCount c) .channel) _ (first-holds (latchCount c) _ held)) (omega arith)
 
+  pub word-may : mayBegin (readWord c .channel) ≡ true
+  unfolding readWord
+  word-may = second-may (readByte (latchCount c) .channel) _ (first-holds (latchCount c) _ held)
+
+pub word-stands : (c : Channel) {bcd : Bool} {e : ℕ} → Stands bcd e c → Stands bcd e (readWord c .channel)
+unfolding readWord
+word-stands c s = read-stands (readByte (latchCount c) .channel) (read-stands (latchCount c) (latch-stands s))
+
 -- a latch of the channel's own, as the board's call
 abbrev latched : Board → ℕ → Outcome
 latched b n = record { reply = accepted (newPlace 0); board = withChannel b n (latchCount (channelAt b n)); events = [] }
@@ -46,10 +56,11 @@ latch-settled : (b : Board) (n : ℕ) → settle b n (latchCount (channelAt b n)
 unfolding settle placeEvent latchCount
 latch-settled b n = simp (standing-level n (channelAt b n .pins .output))
 
-module _ (b : Board) (n : ℕ) (on : n < 3) where
+module _ (b : Board) (none : b .owed .0 ≡ 0) (n : ℕ) (on : n < 3) where
   latch-outcome : step b (latchOf n) ≡ latched b n
   unfolding writePort portOf
-  latch-outcome = ap (λ (command : Command). controlRegisterWrite b command [] 0) (latch-byte n on) ∙ latch-settled b n
+  latch-outcome =
+      simp none (ap (λ (command : Command). controlRegisterWrite b command [] 0) (latch-byte n on) ∙ latch-settled b n)
 
   pub latch-taken : step b (latchOf n) .reply ≡ accepted (newPlace 0)
   latch-taken = ap (λ (o : Outcome). o .reply) latch-outcome
@@ -65,9 +76,9 @@ module _ (b : Board) (three : length (b .channels) ≡ 3) (n : ℕ) (on : n < 3)
       ∙ ap (λ (d : Channel). withChannel (withChannel b n c) n (readByte d .channel)) (put-found b three n on c)
       ∙ put-again b n c (readByte c .channel)
 
-  pub three-calls : steps b (threeCalls n) ≡ withChannel b n (readWord (channelAt b n) .channel)
+  pub three-calls : b .owed .0 ≡ 0 → steps b (threeCalls n) ≡ withChannel b n (readWord (channelAt b n) .channel)
   unfolding readWord
-  three-calls =
-      ap (λ (d : Board). step (step d (readOf n) .board) (readOf n) .board) (latch-put b n on)
+  three-calls none =
+      ap (λ (d : Board). step (step d (readOf n) .board) (readOf n) .board) (latch-put b none n on)
       ∙ ap (λ (d : Board). step d (readOf n) .board) (read-put (latchCount (channelAt b n)))
       ∙ read-put (readByte (latchCount (channelAt b n)) .channel)

@@ -46,10 +46,11 @@ CountsThenReads =
     (b : Board) (i : ℕ) (bcd : Bool) (v : ℕ) → Begins b i bcd v → (os : List Operation) → AllMayPass i os → NoLoads i b os → AllAccepted b os
     → readCount (steps b os) i .reply ≡ accepted (remaining bcd v (countsOn i b os))
 
--- .. and wherever it answers a count it leaves the board as the latch and the two reads leave it
+-- .. and wherever it answers a count it leaves the board as the latch and the two reads leave it, if no tick is owed: else that latch is refused, and `read_count` is not
 abbrev pub AsThreeCalls : Type 0
 AsThreeCalls =
-    (b : Board) (i : ℕ) → i < 3 → length (b .channels) ≡ 3 → mayBegin (channelAt b i) ≡ true → readCount b i .board ≡ steps b (threeCalls i)
+    (b : Board) (i : ℕ) → i < 3 → length (b .channels) ≡ 3 → b .owed .0 ≡ 0 → mayBegin (channelAt b i) ≡ true
+    → readCount b i .board ≡ steps b (threeCalls i)
 
 -- .. so that the next reading may begin from the same count
 abbrev pub ReadsAndBegins : Type 0
