@@ -1,9 +1,11 @@
 -- Demand 3 and what goes with it (specs/Promise.antt). Assumes nothing.
 use Prim.Native.Nat.{ℕ, _*_, _<_}
-use mathlib.Core.Bool.{Bool, true}
+use mathlib.Core.Bool.{Bool, true, false}
 use mathlib.Core.List.{[]}
-use mathlib.Core.Path.{_≡_, sym, _∙_}
+use mathlib.Core.Path.{_≡_, refl, sym, _∙_}
+use lib.Dec.{eqb}
 use lib.ListN.{length-set}
+use borrow.Author.Tests.{eq-eqb, eqb-true}
 use Rattle.refusal.specs.Reply.{accepted}
 use Rattle.control.proofs.Named.{latch-byte}
 use Rattle.board.specs.declared.Board.{Board}
@@ -37,27 +39,27 @@ pub begins-again : BeginsAgain
 begins-again b i bcd v reading later = steps-of.begins-again reading later
 
 -- `read_count` where a reading may begin
-begins-reply : (b : Board) (i : ℕ) (bcd : Bool) (v : ℕ) → Begins b i bcd v → readCount b i .reply ≡ accepted v
+begins-reply : (b : Board) (i : ℕ) (bcd : Bool) (v : ℕ) → Begins b i bcd v → b .owed .0 ≡ 0 → readCount b i .reply ≡ accepted v
 unfolding readCount
-begins-reply b i bcd v begins = simp (not-above i (begins .on-board), begins .may, begins .element)
+begins-reply b i bcd v begins none = simp (not-above i (begins .on-board), eq-eqb _ _ none, begins .may, begins .element)
 
 pub counts-then-reads : CountsThenReads
-counts-then-reads b i bcd v begins os may unloaded took =
-    begins-reply (steps b os) i bcd (remaining bcd v (countsOn i b os)) (begins-after b i bcd v begins os may unloaded took)
+counts-then-reads b i bcd v begins os may unloaded took none =
+    begins-reply (steps b os) i bcd (remaining bcd v (countsOn i b os)) (begins-after b i bcd v begins os may unloaded took) none
 
-begins-board : (b : Board) (i : ℕ) → i < 3 → mayBegin (channelAt b i) ≡ true → readCount b i .board ≡ withChannel b i (readWord (channelAt b i) .channel)
+begins-board : (b : Board) (i : ℕ) → i < 3 → b .owed .0 ≡ 0 → mayBegin (channelAt b i) ≡ true → readCount b i .board ≡ withChannel b i (readWord (channelAt b i) .channel)
 unfolding readCount
-begins-board b i on may = simp (not-above i on, may)
+begins-board b i on none may = simp (not-above i on, eq-eqb _ _ none, may)
 
 pub as-three-calls : AsThreeCalls
-as-three-calls b i on three none may = begins-board b i on may ∙ sym (three-calls b three i on none)
+as-three-calls b i on three none may = begins-board b i on none may ∙ sym (three-calls b three i on none)
 
-pub reads-and-begins : ReadsAndBegins
-reads-and-begins b i bcd v begins =
+read-begins : (b : Board) (i : ℕ) (bcd : Bool) (v : ℕ) → Begins b i bcd v → b .owed .0 ≡ 0 → Begins (readCount b i .board) i bcd v
+read-begins b i bcd v begins none =
     let c = channelAt b i in
     let found : channelAt (withChannel b i (readWord c .channel)) i ≡ readWord c .channel = put-found b (begins .three-channels) i (begins .on-board) _ in
     let s : Stands bcd v (readWord c .channel) = word-stands c (record { in-radix = begins .radix; at = begins .element }) in
-    rw (begins-board b i (begins .on-board) (begins .may))
+    rw (begins-board b i (begins .on-board) none (begins .may))
     (record {
       on-board = begins .on-board;
       may = rw found (word-may c (begins .may));
@@ -67,6 +69,20 @@ reads-and-begins b i bcd v begins =
       three-channels = length-set (b .channels) i _ ∙ begins .three-channels;
       sixteen-bits = begins .sixteen-bits;
     })
+
+-- while ticks are owed nothing is done
+owed-stays : (b : Board) (i : ℕ) → i < 3 → eqb (b .owed .0) 0 ≡ false → readCount b i .board ≡ b
+unfolding readCount
+owed-stays b i on some = simp (not-above i on, some)
+
+either-way : {A : Type 0} (test : Bool) → (test ≡ true → A) → (test ≡ false → A) → A
+either-way true holds fails = holds refl
+either-way false holds fails = fails refl
+
+pub reads-and-begins : ReadsAndBegins
+reads-and-begins b i bcd v begins =
+    either-way (eqb (b .owed .0) 0) (λ none. read-begins b i bcd v begins (eqb-true _ _ none))
+    (λ some. rw (owed-stays b i (begins .on-board) some) begins)
 
 -- the shortest reading, on every channel that a reading may begin on, where no tick is owed
 pub shortest : (b : Board) (i : ℕ) (bcd : Bool) (v : ℕ) → b .owed .0 ≡ 0 → Begins b i bcd v → Reading b i bcd v

@@ -40,13 +40,14 @@ BeginsAgain =
     (b : Board) (i : ℕ) (bcd : Bool) (v : ℕ) (reading : Reading b i bcd v) → NoLaterLoads reading
     → Begins (atEnd reading) i bcd (remaining bcd v (countsInAll reading))
 
--- The same promise of one call of the library, `read_count`: after n counts, whatever else passes, it answers v - n ..
+-- The same promise of one call of the library, `read_count`: after n counts, whatever else passes, it answers v - n, if no tick is owed then ..
 abbrev pub CountsThenReads : Type 0
 CountsThenReads =
     (b : Board) (i : ℕ) (bcd : Bool) (v : ℕ) → Begins b i bcd v → (os : List Operation) → AllMayPass i os → NoLoads i b os → AllAccepted b os
+    → steps b os .owed .0 ≡ 0
     → readCount (steps b os) i .reply ≡ accepted (remaining bcd v (countsOn i b os))
 
--- .. and wherever it answers a count it leaves the board as the latch and the two reads leave it, if no tick is owed: else that latch is refused, and `read_count` is not
+-- .. and wherever it answers a count it leaves the board as the latch and the two reads leave it
 abbrev pub AsThreeCalls : Type 0
 AsThreeCalls =
     (b : Board) (i : ℕ) → i < 3 → length (b .channels) ≡ 3 → b .owed .0 ≡ 0 → mayBegin (channelAt b i) ≡ true

@@ -1,7 +1,7 @@
 -- The count of a channel in one call: latched, and read low byte then high, where demand 3's reading may begin.
 use Prim.Native.Nat.{ℕ}
 use mathlib.Core.Bool.{cond}
-use lib.Dec.{ltb}
+use lib.Dec.{eqb, ltb}
 use Rattle.refusal.specs.Reply.{Reply, refused, accepted}
 use Rattle.refusal.specs.Refusal.{refusalNumber}
 use Rattle.board.specs.declared.Board.{Board}
@@ -35,5 +35,8 @@ countTaken b n =
 abbrev pub notRead : ℕ → Board → CountOutcome
 notRead number b = record { reply = refused number; board = b }
 
+-- Refusals 2, 16, 201. While ticks are owed the latch command is refused (02, L1), and so is this call: the count would be the one before them
 unfoldable pub readCount : Board → ℕ → CountOutcome
-readCount b n = cond (ltb 2 n) (notRead 2 b) (cond (mayBegin (channelAt b n)) (countTaken b n) (notRead 201 b))
+readCount b n =
+    cond (ltb 2 n) (notRead 2 b)
+    (cond (eqb (b .owed .0) 0) (cond (mayBegin (channelAt b n)) (countTaken b n) (notRead 201 b)) (notRead 16 b))

@@ -84,13 +84,20 @@ fn may_begin(c: Channel) -> bool
     starts_word(rw_mode, read_state)
 }
 
-// Refusal 2, then 201.
+// Refusals 2, 16 and 201. A count from before ticks that are owed would be a stale one.
 pub fn read_count(b: Board, channel: usize) -> CountAnswered
     ensures { λ r. ⌜ countOutcome r ≡ readCount b channel ⌝ }
 {
     if 2 < channel {
         return CountAnswered {
             answer: CountAnswer::Refused(Refusal::ChannelAbove2),
+            board: b,
+        };
+    }
+    let owed = b.owed;
+    if owed.0 != 0 {
+        return CountAnswered {
+            answer: CountAnswer::Refused(Refusal::TicksOwed),
             board: b,
         };
     }
