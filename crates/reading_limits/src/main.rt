@@ -5,6 +5,7 @@ use board::Board;
 use channel::PitType;
 use libc::STDOUT_FILENO;
 use reading::CountAnswer;
+use time::SystemTicks;
 
 // Channel 0's data port.
 const DATA: u16 = 0x40;
@@ -57,6 +58,24 @@ fn load(b: Board, low: u8, high: u8) -> Board {
 
 fn counts(b: Board, number: u32) -> Board {
     let r = b.counts(0, number);
+    r.board
+}
+
+fn reset(b: Board) -> Board {
+    let r = b.reset();
+    r.board
+}
+
+// A tick that is owed: twelve system ticks have passed.
+fn owing(b: Board) -> Board {
+    let r = clock::run(b, SystemTicks(12));
+    r.board
+}
+
+// A tick made.
+fn tick(b: Board) -> Board {
+    let mut events = [0u8; 6];
+    let r = owed::work_off(owing(b), 1, &mut events, 0);
     r.board
 }
 
@@ -136,13 +155,19 @@ fn exclusions() {
         latch_and_read(unloaded),
         0,
     );
+    case(
+        b"tick that loads",
+        latch_and_read(tick(unloaded)),
+        latch_and_read(unloaded),
+        0,
+    );
     let two = latch(counts(fresh(), 2));
     let extra = read(two);
     let rest = extra.board;
     case(b"extra read", read_two(rest), read_two(two), 0xFFFE);
     case(
         b"reset",
-        latch_and_read(one.reset()),
+        latch_and_read(reset(one)),
         latch_and_read(one),
         0xFFFF,
     );
@@ -231,7 +256,13 @@ fn in_one_call() {
     say_count(b"after 3 counts", counts(fresh(), 3), 0);
     let bcd = write(fresh(), COMMAND, BOTH_BYTES_BCD);
     say_count(b"in BCD after 1 count", counts(bcd, 1), 0);
+    say_count(
+        b"after a tick that loads 5 and two more",
+        tick(tick(tick(write(write(fresh(), DATA, 5), DATA, 0)))),
+        0,
+    );
     say_count(b"channel 3", fresh(), 3);
+    say_count(b"a tick owed", owing(fresh()), 0);
     say_count(b"low byte only", write(fresh(), COMMAND, LOW_BYTE), 0);
     say_count(b"latched", latch(fresh()), 0);
     let first = read(fresh());
