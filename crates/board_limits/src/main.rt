@@ -28,6 +28,11 @@ fn say_number(text: &[u8], number: u32) {
     io::print_decimal(STDOUT_FILENO, number as u64);
 }
 
+fn say_place(text: &[u8], place: usize) {
+    say(text);
+    io::print_decimal(STDOUT_FILENO, place as u64);
+}
+
 fn say_refusal(refusal: Refusal) {
     let number = refusal.number();
     say_number(b"refused ", number as u32);
@@ -41,16 +46,18 @@ fn say_answer(answer: Answer) {
     match answer {
         Answer::Refused(refusal) => say_refusal(refusal),
         Answer::Done => say(b"done"),
-        Answer::Place(place) => {
-            say(b"place ");
-            io::print_decimal(STDOUT_FILENO, place as u64);
-        }
+        Answer::Place(place) => say_place(b"place ", place),
         Answer::Ticks(yielded) => say_ticks(yielded),
         Answer::Byte(_) => say(b"byte"),
         Answer::OutputState(_) => say(b"output"),
         Answer::Count(_) => say(b"count"),
         Answer::Retriggers(_) => say(b"retriggers"),
         Answer::Dirty(_, _, _) => say(b"dirty"),
+        Answer::Worked(worked) => {
+            let made = worked.made;
+            say_number(b"made ", made.0);
+            say_place(b", place ", worked.place);
+        }
     }
 }
 
@@ -83,10 +90,12 @@ fn counts(number: u32) {
     say(b"\n");
 }
 
-// A catch-up of 100 first: the warp is then 100, and 4 ticks are left beyond 8 times 12.
+// A catch-up of 100 first: the warp is then 100, and 4 ticks are left beyond 8 times 12. The 8 are worked off, or a run would be refused for them.
 fn warped() -> Board {
     let r = clock::catch_up(fresh(), SystemTicks(100));
-    r.board
+    let mut events = [OLD_BYTE; 6];
+    let worked = owed::work_off(r.board, 8, &mut events, 0);
+    worked.board
 }
 
 fn run(b: Board, ticks: u32) {
@@ -121,8 +130,7 @@ fn say_bytes(b0: u8, b1: u8, b2: u8, level: bool) {
 // A control byte with three event bytes lent.
 fn control(name: &[u8], byte: u8, place: usize) {
     say(name);
-    say(b" at place ");
-    io::print_decimal(STDOUT_FILENO, place as u64);
+    say_place(b" at place ", place);
     say(b" of 3: ");
     let mut events = [OLD_BYTE; 3];
     let r = ports::write_port(fresh(), 0x43, byte, &mut events, place);
@@ -132,6 +140,63 @@ fn control(name: &[u8], byte: u8, place: usize) {
     let c = b.channels[0];
     let p = c.pins;
     say_bytes(events[0], events[1], events[2], p.output);
+}
+
+// A port write where a tick is owed, with three event bytes lent: 16 comes after 1 and before 7.
+fn write_owing(port: u16, place: usize) {
+    say_number(b"write to port ", port as u32);
+    say_place(b" at place ", place);
+    say(b" of 3, a tick owed: ");
+    let owing = clock::run(fresh(), SystemTicks(12));
+    let mut events = [OLD_BYTE; 3];
+    let r = ports::write_port(owing.board, port, MODE_2, &mut events, place);
+    let answer = r.answer;
+    say_answer(answer);
+    say(b"\n");
+}
+
+// Channel 0 in mode 2 with a count of 2, whose output changes with every tick after the first; and so many ticks owed.
+fn pulsing(owed: u32) -> Board {
+    let mut events = [OLD_BYTE; 2];
+    let set = ports::write_port(fresh(), 0x43, MODE_2, &mut events, 0);
+    let low = ports::write_port(set.board, 0x40, 2, &mut events, 0);
+    let high = ports::write_port(low.board, 0x40, 0, &mut events, 0);
+    let r = clock::run(high.board, SystemTicks(12 * (owed % 100000)));
+    r.board
+}
+
+// Ticks worked off with three event bytes lent.
+fn work(b: Board, stated: u32, place: usize) {
+    say_number(b"work ", stated);
+    say_place(b" at place ", place);
+    say(b" of 3: ");
+    let mut events = [OLD_BYTE; 3];
+    let r = owed::work_off(b, stated, &mut events, place);
+    let answer = r.answer;
+    say_answer(answer);
+    let after = r.board;
+    let left = after.owed;
+    say_number(b", owed ", left.0);
+    let c = after.channels[0];
+    let p = c.pins;
+    say_bytes(events[0], events[1], events[2], p.output);
+}
+
+fn idling() -> Board {
+    let r = clock::run(fresh(), SystemTicks(786444));
+    r.board
+}
+
+fn working_off() {
+    work(idling(), 65536, 3);
+    work(idling(), 65537, 3);
+    work(idling(), 65537, 4);
+    work(pulsing(5), 0, 0);
+    work(pulsing(0), 5, 0);
+    work(pulsing(5), 5, 0);
+    work(pulsing(5), 5, 1);
+    work(pulsing(5), 5, 2);
+    work(pulsing(1), 5, 2);
 }
 
 fn main() {
@@ -147,4 +212,8 @@ fn main() {
     control(b"mode set", MODE_2, 4);
     control(b"latch", LATCH, 3);
     control(b"latch", LATCH, 4);
+    write_owing(0x44, 4);
+    write_owing(0x43, 4);
+    write_owing(0x42, 0);
+    working_off();
 }
