@@ -57,13 +57,13 @@ module _ (b : Board) (rest : List ℕ) where
   same-board : BoardInRange b → boardOf (channelAt b 0) (channelAt b 1) (channelAt b 2) (boardBytes b ++ rest) ≡ b
   unfolding boardBytes channelBytes boardOf numberAt
   same-board r =
-      simp (three-channels (b .channels) (r .three), same-model, flag-back, long-back _ (r .divisor), long-back _ (r .remainder), long-back _ (r .warp))
+      simp (three-channels (b .channels) (r .three), same-model, flag-back, long-back _ (r .divisor), long-back _ (r .remainder), long-back _ (r .warp), long-back _ (r .owed))
 
   -- whatever lies behind
   pub board-back-before : BoardInRange b → loadBoard (boardBytes b ++ rest) ≡ whole b
   unfolding loadBoard
   board-back-before r =
-      let long : 101 ≤ length (boardBytes b ++ rest) = simp (length-append, bytes-length) (omega arith) in
+      let long : 105 ≤ length (boardBytes b ++ rest) = simp (length-append, bytes-length) (omega arith) in
       simp (
         le-ltb _ _ long,
         first-at,

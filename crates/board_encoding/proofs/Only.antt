@@ -58,38 +58,38 @@ module _ (bytes : List ℕ) (all : (p : ℕ) → getD bytes p 0 < 256) where
   unfolding numberAt
   four p = four-of _ _ _ _ (all p) (all (p + 1)) (all (p + 2)) (all (p + 2 + 1))
 
-  own-spelled : (c0 c1 c2 : Channel) → getD bytes 87 0 ≤ 1 → getD bytes 100 0 ≤ 1 → ownBytes (boardOf c0 c1 c2 bytes) ≡ spelled bytes 87 14
+  own-spelled : (c0 c1 c2 : Channel) → getD bytes 87 0 ≤ 1 → getD bytes 100 0 ≤ 1 → ownBytes (boardOf c0 c1 c2 bytes) ≡ spelled bytes 87 18
   unfolding boardOf
   own-spelled c0 c1 c2 model defer =
-      λ i. model-number-back (getD bytes 87 0) model i ∷ four 88 i ++ four 92 i ++ four 96 i ++ flag-only (getD bytes 100 0) defer i ∷ []
+      λ i. model-number-back (getD bytes 87 0) model i ∷ four 88 i ++ four 92 i ++ four 96 i ++ flag-only (getD bytes 100 0) defer i ∷ four 101 i
 
   -- the record at a place
   record-form : (place : ℕ) (c : Channel) → recordAt bytes place ≡ record-loaded.Whole c → channelBytes c ≡ take 29 (drop place bytes)
   record-form place c e = record-bytes (take 29 (drop place bytes)) c e ∙ take-take 29 29 (drop place bytes) (omega arith)
 
-  in-parts : take 101 bytes ≡ take 29 bytes ++ take 29 (drop 29 bytes) ++ take 29 (drop 58 bytes) ++ take 14 (drop 87 bytes)
+  in-parts : take 105 bytes ≡ take 29 bytes ++ take 29 (drop 29 bytes) ++ take 29 (drop 58 bytes) ++ take 18 (drop 87 bytes)
   in-parts =
-      take-add 87 14 bytes
-      ∙ ap (λ (l : List ℕ). l ++ take 14 (drop 87 bytes))
+      take-add 87 18 bytes
+      ∙ ap (λ (l : List ℕ). l ++ take 18 (drop 87 bytes))
       (take-add 58 29 bytes ∙ ap (λ (l : List ℕ). l ++ take 29 (drop 58 bytes)) (take-add 29 29 bytes))
 
-  of-parts : (c0 c1 c2 : Channel) → 101 ≤ length bytes → recordAt bytes 0 ≡ record-loaded.Whole c0 → recordAt bytes 29 ≡ record-loaded.Whole c1
+  of-parts : (c0 c1 c2 : Channel) → 105 ≤ length bytes → recordAt bytes 0 ≡ record-loaded.Whole c0 → recordAt bytes 29 ≡ record-loaded.Whole c1
       → recordAt bytes 58 ≡ record-loaded.Whole c2
       → getD bytes 87 0 ≤ 1
       → getD bytes 100 0 ≤ 1
-      → boardBytes (boardOf c0 c1 c2 bytes) ≡ take 101 bytes
+      → boardBytes (boardOf c0 c1 c2 bytes) ≡ take 105 bytes
   unfolding boardBytes boardOf
   of-parts c0 c1 c2 long e0 e1 e2 model defer =
       let first = record-form 0 c0 e0 in
       let second = record-form 29 c1 e1 in
       let third = record-form 58 c2 e2 in
-      let behind = own-spelled c0 c1 c2 model defer ∙ spelled-part bytes 87 14 long in
+      let behind = own-spelled c0 c1 c2 model defer ∙ spelled-part bytes 87 18 long in
       (λ i. first i ++ second i ++ third i ++ behind i) ∙ sym in-parts
 
-  pub only-bytes-before : (b : Board) → loadBoard bytes ≡ whole b → boardBytes b ≡ take 101 bytes
+  pub only-bytes-before : (b : Board) → loadBoard bytes ≡ whole b → boardBytes b ≡ take 105 bytes
   unfolding loadBoard
   only-bytes-before b e =
-      let long = enough (ltb (length bytes) 101) _ b e in
+      let long = enough (ltb (length bytes) 105) _ b e in
       let first = held (recordAt bytes 0) _ b (long .1) in
       let second = held (recordAt bytes 29) _ b (first .goes) in
       let third = held (recordAt bytes 58) _ b (second .goes) in
@@ -97,5 +97,5 @@ module _ (bytes : List ℕ) (all : (p : ℕ) → getD bytes p 0 < 256) where
       rw (← rest .2)
       (of-parts (first .c) (second .c) (third .c) (ltb-false _ _ (long .0)) (first .found) (second .found) (third .found) (ltb-false _ _ (rest .0)) (ltb-false _ _ (rest .1)))
 
-  pub only-bytes : (b : Board) → length bytes ≡ 101 → loadBoard bytes ≡ whole b → boardBytes b ≡ bytes
-  only-bytes b len e = only-bytes-before b e ∙ take-all 101 bytes (omega arith)
+  pub only-bytes : (b : Board) → length bytes ≡ 105 → loadBoard bytes ≡ whole b → boardBytes b ≡ bytes
+  only-bytes b len e = only-bytes-before b e ∙ take-all 105 bytes (omega arith)

@@ -1,4 +1,4 @@
--- docs/ENCODING.md, "A board: 101 bytes": which bytes are readable, and the board that they spell.
+-- docs/ENCODING.md, "A board: 105 bytes": which bytes are readable, and the board that they spell.
 use Prim.Native.Nat.{ℕ}
 use mathlib.Core.Bool.{Bool, cond, _||_, not}
 use mathlib.Core.List.{List, [], _∷_}
@@ -38,6 +38,7 @@ boardOf c0 c1 c2 bytes =
       remainder = record { 0 = numberAt bytes 92 };
       warp = record { 0 = numberAt bytes 96 };
       defer = eqb (getD bytes 100 0) 1;
+      owed = record { 0 = numberAt bytes 101 };
     }
 
 -- the 29 bytes of the record at a place, loaded
@@ -53,7 +54,7 @@ withRecord record-loaded.Unreadable rest = none Unreadable
 -- "101 fewer bytes of record or board than it has", "102 the record or the board is not readable"
 unfoldable pub loadBoard : List ℕ → BoardLoaded
 loadBoard bytes =
-    cond (ltb (length bytes) 101) (none Short)
+    cond (ltb (length bytes) 105) (none Short)
     (withRecord (recordAt bytes 0) (λ c0.
     withRecord (recordAt bytes 29) (λ c1.
     withRecord (recordAt bytes 58) (λ c2.

@@ -14,3 +14,4 @@ pub record BoardInRange (b : Board) : Type 0 where
   pub divisor : b .divisor < 4294967296
   pub remainder : b .remainder .0 < 4294967296
   pub warp : b .warp .0 < 4294967296
+  pub owed : b .owed .0 < 4294967296

@@ -1,9 +1,10 @@
-// A board out of its 101 bytes, where they are readable.
+// A board out of its 105 bytes, where they are readable.
 use board::Board;
 use channel::Channel;
 use channel::PitType;
 use encoding::loading::Loaded;
 use time::SystemTicks;
+use time::TimerTicks;
 ghost use mathlib.Core.Path.{_≡_};
 ghost use Prim.Native.Nat.{_≤_};
 ghost use lib.ListN.{length};
@@ -35,7 +36,7 @@ fn none(found: Found) -> BoardLoaded
 
 // The bytes of the board's model and defer flag.
 fn own_readable(bytes: &[u8]) -> bool
-    requires { ⌜ 101 ≤ length (now bytes) ⌝ }
+    requires { ⌜ 105 ≤ length (now bytes) ⌝ }
     ensures { λ r. ⌜ r ≡ ownReadable (now (bytes .entry)) ⌝ }
 {
     if 1 < bytes[87] {
@@ -49,7 +50,7 @@ fn own_readable(bytes: &[u8]) -> bool
 
 // Three records, and what the board itself holds.
 fn board_of(c0: Channel, c1: Channel, c2: Channel, bytes: &[u8]) -> Board
-    requires { ⌜ 101 ≤ length (now bytes) ⌝ }
+    requires { ⌜ 105 ≤ length (now bytes) ⌝ }
     ensures { λ r. ⌜ r ≡ boardOf c0 c1 c2 (now (bytes .entry)) ⌝ }
 {
     let channels = [c0, c1, c2];
@@ -57,6 +58,7 @@ fn board_of(c0: Channel, c1: Channel, c2: Channel, bytes: &[u8]) -> Board
     let divisor = numbers::number_at(bytes, 88);
     let remainder = SystemTicks(numbers::number_at(bytes, 92));
     let warp = SystemTicks(numbers::number_at(bytes, 96));
+    let owed = TimerTicks(numbers::number_at(bytes, 101));
     Board {
         channels,
         model,
@@ -64,13 +66,14 @@ fn board_of(c0: Channel, c1: Channel, c2: Channel, bytes: &[u8]) -> Board
         remainder,
         warp,
         defer: bytes[100] == 1,
+        owed,
     }
 }
 
 pub fn load_board(bytes: &[u8]) -> BoardLoaded
     ensures { λ r. ⌜ r ≡ loadBoard (now (bytes .entry)) ⌝ }
 {
-    if bytes.len() < 101 {
+    if bytes.len() < 105 {
         return none(Found::Short);
     }
     let first = encoding::load_channel(&bytes[0..29]);

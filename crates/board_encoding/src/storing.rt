@@ -1,18 +1,20 @@
-// A board as its 101 bytes.
+// A board as its 105 bytes.
 use board::Board;
 ghost use mathlib.Core.Path.{_≡_};
 ghost use Rattle.board_encoding.specs.Stored.{ownBytes, boardBytes};
 
 // What the board itself holds, behind the three records.
-fn own_bytes(b: Board) -> [u8; 14]
+fn own_bytes(b: Board) -> [u8; 18]
     ensures { λ r. ⌜ r ≡ ownBytes b ⌝ }
 {
     let model = b.model;
     let remainder = b.remainder;
     let warp = b.warp;
+    let owed = b.owed;
     let d = encoding::four_bytes(b.divisor);
     let r = encoding::four_bytes(remainder.0);
     let w = encoding::four_bytes(warp.0);
+    let o = encoding::four_bytes(owed.0);
     [
         model.number(),
         d[0],
@@ -28,17 +30,21 @@ fn own_bytes(b: Board) -> [u8; 14]
         w[2],
         w[3],
         numbers::flag_byte(b.defer),
+        o[0],
+        o[1],
+        o[2],
+        o[3],
     ]
 }
 
-pub fn board_bytes(b: Board) -> [u8; 101]
+pub fn board_bytes(b: Board) -> [u8; 105]
     ensures { λ r. ⌜ r ≡ boardBytes b ⌝ }
 {
     let c0 = encoding::channel_bytes(b.channels[0]);
     let c1 = encoding::channel_bytes(b.channels[1]);
     let c2 = encoding::channel_bytes(b.channels[2]);
     let own = own_bytes(b);
-    let mut bytes = [0u8; 101];
+    let mut bytes = [0u8; 105];
     let mut place = text::put(&mut bytes, 0, &c0);
     place = text::put(&mut bytes, place, &c1);
     place = text::put(&mut bytes, place, &c2);

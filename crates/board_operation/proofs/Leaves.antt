@@ -5,13 +5,13 @@ use mathlib.Core.List.{List}
 use lib.ListN.{length}
 use Rattle.refusal.specs.Reply.{Reply, refused, accepted}
 use Rattle.board.specs.declared.Board.{Board}
-use Rattle.board.specs.Outcome.{Value, done, newPlace, byte, ticks, outputState, channelCount, retriggers, dirtyMarks, timerAccum}
+use Rattle.board.specs.Outcome.{Value, done, newPlace, byte, ticks, outputState, channelCount, retriggers, dirtyMarks, timerAccum, worked}
 use Rattle.step.specs.Operation.{lent}
 use Rattle.step.specs.Step.{step}
 use Rattle.step.proofs.Leaves.{refused-leaves}
 use Rattle.step.proofs.Lent.{lent-length}
 use Rattle.board_operation.specs.declared.Operation.{Operation}
-use Rattle.board_operation.specs.declared.Operation.the-variants.{WritePort, ReadPort, SetChannelGate, Counts, LoadCycle, CatchUp, Run, Reset, GetOutputState, GetChannelCount, DoesChannelRetrigger, IsDirty, GetTimerAccum}
+use Rattle.board_operation.specs.declared.Operation.the-variants.{WritePort, ReadPort, SetChannelGate, Counts, LoadCycle, CatchUp, Run, Reset, GetOutputState, GetChannelCount, DoesChannelRetrigger, IsDirty, GetTimerAccum, WorkOff}
 use Rattle.board_operation.specs.Made.{asked, eventsAfter, valueNumbers, numbersOf, operate}
 
 -- an accepted step answers with refusal 0
@@ -25,6 +25,7 @@ accepted-zero (channelCount register element counting) = refl
 accepted-zero (retriggers answer) = refl
 accepted-zero (dirtyMarks dirty counting ticked) = refl
 accepted-zero (timerAccum n) = refl
+accepted-zero (worked n p) = refl
 
 refused-by : (reply : Reply Value) → (numbersOf reply .refusal ≡ 0 → ⊥) → reply ≡ refused (numbersOf reply .refusal)
 refused-by (refused number) set = refl
@@ -47,6 +48,7 @@ after-holds P (GetChannelCount channel) events stepped place before after = befo
 after-holds P (DoesChannelRetrigger channel) events stepped place before after = before
 after-holds P (IsDirty channel) events stepped place before after = before
 after-holds P GetTimerAccum events stepped place before after = before
+after-holds P (WorkOff stated) events stepped place before after = after refl
 
 module _ (b : Board) (op : Operation) (events : List ℕ) (place : ℕ) where
   pub refused-leaves-all : (operate b op events place .numbers .refusal ≡ 0 → ⊥)

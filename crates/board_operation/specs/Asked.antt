@@ -2,7 +2,7 @@
 use Prim.Native.Nat.{ℕ}
 use mathlib.Core.Bool.{cond}
 use lib.Dec.{eqb, ltb}
-use Rattle.board_operation.specs.declared.Operation.the-variants.{WritePort, ReadPort, SetChannelGate, Counts, LoadCycle, CatchUp, Run, Reset, GetOutputState, GetChannelCount, DoesChannelRetrigger, IsDirty, GetTimerAccum}
+use Rattle.board_operation.specs.declared.Operation.the-variants.{WritePort, ReadPort, SetChannelGate, Counts, LoadCycle, CatchUp, Run, Reset, GetOutputState, GetChannelCount, DoesChannelRetrigger, IsDirty, GetTimerAccum, WorkOff}
 use Rattle.board_operation.specs.declared.asked.Asked.{Asked}
 use Rattle.board_operation.specs.declared.asked.Asked.the-variants.{Known, Unknown}
 
@@ -38,4 +38,5 @@ operationOf code target number =
     (cond (eqb code 3) (gateAsked target number)
     (cond (eqb code 4) (Known (Counts target number))
     (cond (eqb code 6) (zeroOr target (Known (CatchUp (record { 0 = number }))))
-    (cond (eqb code 7) (zeroOr target (Known (Run (record { 0 = number })))) (zeroOr number (bareAsked code target))))))
+    (cond (eqb code 7) (zeroOr target (Known (Run (record { 0 = number }))))
+    (cond (eqb code 9) (zeroOr target (Known (WorkOff number))) (zeroOr number (bareAsked code target)))))))

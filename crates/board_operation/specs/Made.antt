@@ -7,11 +7,11 @@ use Rattle.refusal.specs.Reply.{Reply, refused, accepted}
 use Rattle.board.specs.declared.Board.{Board}
 use Rattle.board.specs.declared.Answer.{Answer}
 use Rattle.board.specs.Answer.{replyOf}
-use Rattle.board.specs.Outcome.{Outcome, Value, done, newPlace, byte, ticks, outputState, channelCount, retriggers, dirtyMarks, timerAccum}
+use Rattle.board.specs.Outcome.{Outcome, Value, done, newPlace, byte, ticks, outputState, channelCount, retriggers, dirtyMarks, timerAccum, worked}
 use Rattle.step.specs.Operation as call
 use Rattle.step.specs.Step.{step}
 use Rattle.board_operation.specs.declared.Operation.{Operation}
-use Rattle.board_operation.specs.declared.Operation.the-variants.{WritePort, ReadPort, SetChannelGate, Counts, LoadCycle, CatchUp, Run, Reset, GetOutputState, GetChannelCount, DoesChannelRetrigger, IsDirty, GetTimerAccum}
+use Rattle.board_operation.specs.declared.Operation.the-variants.{WritePort, ReadPort, SetChannelGate, Counts, LoadCycle, CatchUp, Run, Reset, GetOutputState, GetChannelCount, DoesChannelRetrigger, IsDirty, GetTimerAccum, WorkOff}
 use Rattle.board_operation.specs.declared.making.Numbers.{Numbers}
 use Rattle.board_operation.specs.declared.making.Made.{Made}
 
@@ -30,8 +30,9 @@ asked (GetChannelCount channel) events place = call.GetChannelCount channel
 asked (DoesChannelRetrigger channel) events place = call.DoesChannelRetrigger channel
 asked (IsDirty channel) events place = call.IsDirty channel
 asked GetTimerAccum events place = call.GetTimerAccum
+asked (WorkOff stated) events place = call.WorkOff stated events place
 
--- "Only codes 1 and 3 look at the event bytes and the place": the bytes before a call, and those after the step
+-- "Only codes 1, 3 and 9 look at the event bytes and the place": the bytes before a call, and those after the step
 abbrev pub eventsAfter : Operation → List ℕ → List ℕ → List ℕ
 eventsAfter (WritePort port x) events stepped = stepped
 eventsAfter (ReadPort port) events stepped = events
@@ -46,6 +47,7 @@ eventsAfter (GetChannelCount channel) events stepped = events
 eventsAfter (DoesChannelRetrigger channel) events stepped = events
 eventsAfter (IsDirty channel) events stepped = events
 eventsAfter GetTimerAccum events stepped = events
+eventsAfter (WorkOff stated) events stepped = stepped
 
 abbrev pub numbered : ℕ → ℕ → ℕ → ℕ → Numbers
 numbered refusal a b c = record { refusal = refusal; first = a; second = b; third = c }
@@ -61,6 +63,7 @@ valueNumbers (channelCount register element counting) = numbered 0 register elem
 valueNumbers (retriggers answer) = numbered 0 (flagNumber answer) 0 0
 valueNumbers (dirtyMarks dirty counting ticked) = numbered 0 (flagNumber dirty) (flagNumber counting) (flagNumber ticked)
 valueNumbers (timerAccum n) = numbered 0 n 0 0
+valueNumbers (worked n p) = numbered 0 p n 0
 
 abbrev pub numbersOf : Reply Value → Numbers
 numbersOf (refused number) = numbered number 0 0 0

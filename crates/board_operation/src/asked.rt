@@ -99,5 +99,8 @@ pub fn operation_of(code: u8, target: u16, number: u32) -> Asked
             Asked::Known(Operation::Run(SystemTicks(number))),
         );
     }
+    if code == 9 {
+        return zero_or(target as u32, Asked::Known(Operation::WorkOff(number)));
+    }
     zero_or(number, bare_asked(code, target))
 }

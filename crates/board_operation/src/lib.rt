@@ -6,7 +6,7 @@ pub use asked::operation_of;
 pub use making::operate;
 use time::SystemTicks;
 
-// A port and a byte; a channel with a level or a number; ticks; a channel.
+// A port and a byte; a channel with a level or a number; ticks; a channel; how many ticks to work off.
 pub enum Operation {
     WritePort(u16, u8),
     ReadPort(u16),
@@ -21,4 +21,5 @@ pub enum Operation {
     DoesChannelRetrigger(u16),
     IsDirty(u16),
     GetTimerAccum,
+    WorkOff(u32),
 }

@@ -6,7 +6,6 @@ use board::Board;
 ghost use mathlib.Core.Path.{_≡_};
 ghost use Rattle.numbers.specs.Flags.{flagNumber};
 ghost use Rattle.board.specs.Answer.{replyOf};
-ghost use Rattle.board.specs.Making as making;
 ghost use Rattle.board.specs.Queries.{getTimerAccum};
 ghost use Rattle.board_operation.specs.Made.{numbersOf, numbered, operate, made, madeOf};
 
@@ -66,6 +65,10 @@ fn numbers_of(answer: Answer) -> Numbers
             as_number(counting),
             as_number(ticked),
         ),
+        Answer::Worked(work) => {
+            let made = work.made;
+            saying(work.place as u64, made.0, 0)
+        }
     }
 }
 
@@ -86,14 +89,6 @@ fn told(b: Board, answer: Answer) -> Made
     Made { numbers, board: b }
 }
 
-fn reset(b: Board) -> Made
-    ensures { λ m. ⌜ m ≡ madeOf Answer.Done (making.reset b) ⌝ }
-{
-    let board = b.reset();
-    let numbers = saying(0, 0, 0);
-    Made { numbers, board }
-}
-
 fn timer_accum(b: Board) -> Made
     ensures { λ m. ⌜ m ≡ record { numbers = numbered 0 (getTimerAccum b) 0 0; board = b } ⌝ }
 {
@@ -102,7 +97,7 @@ fn timer_accum(b: Board) -> Made
     Made { numbers, board: b }
 }
 
-// The event bytes and the place in them are for a port write and a gate; the others do not look at them.
+// The event bytes and the place in them are for a port write, a gate and ticks worked off; the others do not look at them.
 pub fn operate(b: Board, operation: Operation, events: &mut [u8], place: usize) -> Made
     ensures { λ r. ⌜ made r (now (events .exit)) ≡ operate b operation (now (events .entry)) place ⌝ }
 {
@@ -126,7 +121,7 @@ pub fn operate(b: Board, operation: Operation, events: &mut [u8], place: usize) 
         Operation::LoadCycle(channel) => answered(b.load_cycle(channel as usize)),
         Operation::CatchUp(ticks) => answered(clock::catch_up(b, ticks)),
         Operation::Run(ticks) => answered(clock::run(b, ticks)),
-        Operation::Reset => reset(b),
+        Operation::Reset => answered(b.reset()),
         Operation::GetOutputState(channel) => told(b, b.get_output_state(channel as usize)),
         Operation::GetChannelCount(channel) => told(b, b.get_channel_count(channel as usize)),
         Operation::DoesChannelRetrigger(channel) => {
@@ -134,5 +129,6 @@ pub fn operate(b: Board, operation: Operation, events: &mut [u8], place: usize) 
         }
         Operation::IsDirty(channel) => answered(b.is_dirty(channel as usize)),
         Operation::GetTimerAccum => timer_accum(b),
+        Operation::WorkOff(stated) => answered(owed::work_off(b, stated, events, place)),
     }
 }

@@ -1,3 +1,3 @@
 pub mod Ends
 pub mod Back
-pub mod FirstTwo
+pub mod FirstSix

@@ -1,14 +1,14 @@
 -- Document 01, "Recorded traces": the lines that the replay program prints. "A read byte prints as two upper-case hex digits, all other numbers in
 -- decimal."
-use Prim.Native.Nat.{ℕ}
+use Prim.Native.Nat.{ℕ, _+_}
 use mathlib.Core.Bool.{cond}
-use mathlib.Core.List.{List, _++_}
-use lib.Dec.{eqb}
+use mathlib.Core.List.{List, [], _++_}
+use lib.Dec.{eqb, ltb}
 use lib.ListN.{getD}
 use Rattle.refusal.specs.Reply.{Reply, refused, accepted}
 use Rattle.channel.specs.declared.PitType.{PitType}
 use Rattle.channel.specs.declared.PitType.the-variants.{Model8253, Model8254}
-use Rattle.board.specs.Outcome.{Value, done, newPlace, byte, ticks, outputState, channelCount, retriggers, dirtyMarks, timerAccum}
+use Rattle.board.specs.Outcome.{Value, done, newPlace, byte, ticks, outputState, channelCount, retriggers, dirtyMarks, timerAccum, worked}
 use Rattle.text.specs.Ascii.{ascii}
 use Rattle.text.specs.Number.{decimal, hex}
 
@@ -41,16 +41,28 @@ ticksText number left = ascii "ticks " ++ decimal number ++ ascii " left " ++ de
 abbrev pub outText : List ℕ → List ℕ
 outText events = ascii "out " ++ decimal (getD events 0 0) ++ ascii " " ++ decimal (getD events 1 0)
 
+-- "`out` and two numbers for each event" (02, L1): an event's two bytes stand at a place of the lent bytes. They are lent "at place 0", so the new place is how
+-- many bytes were written, and the event is there where it stands below that
+abbrev pub eventText : ℕ → ℕ → List ℕ → List ℕ
+eventText written at events =
+    cond (ltb at written) (ascii " out " ++ decimal (getD events at 0) ++ ascii " " ++ decimal (getD events (at + 1) 0)) []
+
+-- "its line is `made N`, then `out` and two numbers for each event" (02, L1), of which six bytes hold three
+abbrev pub madeText : ℕ → ℕ → List ℕ → List ℕ
+madeText made place events =
+    ascii "made " ++ decimal made ++ eventText place 0 events ++ eventText place 2 events ++ eventText place 4 events
+
 -- "else `ok`"
 abbrev pub okText : List ℕ
 okText = ascii "ok"
 
 -- "its index, then `refused N`; or `read`, `ticks` and `left`, `out` with an event's two bytes, else `ok`". The events were lent "at place 0", so there is
--- one where the new place is not 0
+-- one where the new place is not 0; "`made N`, then `out` and two numbers for each event" (02, L1)
 abbrev pub valueText : Value → List ℕ → ℕ → List ℕ
 valueText (byte x) events left = readText x
 valueText (ticks number) events left = ticksText number left
 valueText (newPlace place) events left = cond (eqb place 0) okText (outText events)
+valueText (worked made place) events left = madeText made place events
 valueText done events left = okText
 valueText (outputState level) events left = okText
 valueText (channelCount register element counting) events left = okText

@@ -10,6 +10,7 @@ use Rattle.line.specs.Lines.{headLine, operationLine, endLine, faultLine
 -- "a head line, one line for each operation .., and an end line"; "a fault prints only .."
 abbrev pub sentenceText : Sentence → List ℕ
 sentenceText (Head model divisor) = headLine model divisor
-sentenceText (Operation index answer x y left) = operationLine index (replyOf answer) (x ∷ y ∷ []) (left .0)
+sentenceText (Operation index answer e0 e1 e2 e3 e4 e5 left) =
+    operationLine index (replyOf answer) (e0 ∷ e1 ∷ e2 ∷ e3 ∷ e4 ∷ e5 ∷ []) (left .0)
 sentenceText (End number) = endLine number
 sentenceText (Fault refusal at) = faultLine (refusalNumber refusal) at

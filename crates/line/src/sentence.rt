@@ -17,8 +17,8 @@ ghost use Rattle.line.specs.Said.{sentenceText};
 pub enum Sentence {
     // Model and divisor.
     Head(PitType, u32),
-    // Index, answer, the two lent event bytes after the operation, and the remainder after it.
-    Operation(u32, Answer, u8, u8, SystemTicks),
+    // Index, answer, the lent event bytes after the operation, in six places, and the remainder after it. An enum holds no array, so each byte is here by itself.
+    Operation(u32, Answer, u8, u8, u8, u8, u8, u8, SystemTicks),
     // How many operations there were.
     End(u32),
     // Why a trace is refused, and where.
@@ -30,8 +30,8 @@ pub fn line_of(sentence: Sentence) -> Line
 {
     match sentence {
         Sentence::Head(model, divisor) => head_line(model, divisor),
-        Sentence::Operation(index, answer, first, second, left) => {
-            operation_line(index, answer, [first, second], left)
+        Sentence::Operation(index, answer, e0, e1, e2, e3, e4, e5, left) => {
+            operation_line(index, answer, [e0, e1, e2, e3, e4, e5], left)
         }
         Sentence::End(number) => end_line(number),
         Sentence::Fault(refusal, at) => fault_line(refusal, at),

@@ -1,4 +1,6 @@
 pub mod Puts
+pub mod Advancing
+pub mod Runs
 pub mod Working
 pub mod Tells
 pub mod WorkedOff

@@ -1,3 +1,4 @@
 pub mod BoardTick
 pub mod Worked
 pub mod Told
+pub mod Advanced

@@ -4,6 +4,7 @@ use board::Answered;
 use board::Board;
 use board::Worked;
 use channel::Channel;
+use channel::PitType;
 use event::Event;
 use event::Placed;
 use refusal::Refusal;
@@ -14,9 +15,55 @@ ghost use Prim.Native.Nat.{ℕ, _≤_, _+_};
 ghost use lib.ListN.{length};
 ghost use Rattle.board.specs.Answer.{outcome};
 ghost use Rattle.event.specs.Event.{eventOf};
+ghost use Rattle.quiet.specs.Quiet.{quiet};
 ghost use Rattle.owed.specs.Worked.{size, put, workOn, begun, report, workOff};
+ghost use Rattle.owed.specs.Told.{smaller};
+ghost use Rattle.owed.specs.Advanced.{alike, passed, Advanced};
 
-// The event of a channel that a tick takes from one record to another.
+fn least(a: u32, b: u32) -> u32
+    ensures { λ r. ⌜ r ≡ smaller a b ⌝ }
+{
+    if b < a {
+        return b;
+    }
+    a
+}
+
+// How many of the next ticks have no event on any channel: at most what is left and what is owed.
+fn alike(left: u32, owed: u32, c0: Channel, c1: Channel, c2: Channel) -> u32
+    ensures { λ r. ⌜ r ≡ alike left owed c0 c1 c2 ⌝ }
+{
+    let q0 = quiet::quiet(c0);
+    let q1 = quiet::quiet(c1);
+    let q2 = quiet::quiet(c2);
+    let last = least(q1, q2);
+    let all = least(q0, last);
+    let due = least(owed, all);
+    least(left, due)
+}
+
+// How many ticks a turn of the loop makes: those that it skips or, if it skips none, one.
+fn passed(skipped: u32) -> u32
+    ensures { λ r. ⌜ r ≡ passed skipped ⌝ }
+{
+    if skipped == 0 {
+        return 1;
+    }
+    skipped
+}
+
+// The channel after those ticks. That its element has 16 bits is known of an argument, so the laws of quiet ticks are drawn on here.
+fn advance(c: Channel, model: PitType, skipped: u32) -> Channel
+    requires { ⌜ skipped ≤ quiet c ⌝ }
+    ensures { λ r. ⌜ Advanced model skipped c r ⌝ }
+{
+    if skipped == 0 {
+        return tick::tick(c, model);
+    }
+    quiet::skip(c, skipped)
+}
+
+// The event of a channel that ticks take from one record to another.
 fn tick_event(n: u8, old: Channel, new: Channel) -> Event
     ensures { λ r. ⌜ r ≡ eventOf n (old .pins .output) (new .pins .output) ⌝ }
 {
@@ -70,7 +117,8 @@ fn worked(board: Board, made: u32, place: usize) -> Answered
     }
 }
 
-// One loop owns the board and changes it where it stands: nothing that a turn calls takes or hands back a board.
+// One loop owns the board and changes it where it stands: nothing that a turn calls takes or hands back a board. A turn makes a run of quiet ticks in one
+// step, or a single tick with its events; the contract knows single ticks only, so it is itself the promise that the runs come to the same.
 fn work_on(b: Board, stated: u32, events: &mut [u8], place: usize) -> Answered
     requires { ⌜ place ≤ length (now events) ⌝ }
     ensures { λ r. ⌜ outcome r (now (events .exit)) ≡ report (workOn stated (begun b (now (events .entry)) place)) ⌝ }
@@ -87,9 +135,10 @@ fn work_on(b: Board, stated: u32, events: &mut [u8], place: usize) -> Answered
         let c0 = board.channels[0];
         let c1 = board.channels[1];
         let c2 = board.channels[2];
-        let t0 = tick::tick(c0, model);
-        let t1 = tick::tick(c1, model);
-        let t2 = tick::tick(c2, model);
+        let skipped = alike(stated - made, owed.0, c0, c1, c2);
+        let t0 = advance(c0, model, skipped);
+        let t1 = advance(c1, model, skipped);
+        let t2 = advance(c2, model, skipped);
         let e0 = tick_event(0, c0, t0);
         let e1 = tick_event(1, c1, t1);
         let e2 = tick_event(2, c2, t2);
@@ -100,10 +149,11 @@ fn work_on(b: Board, stated: u32, events: &mut [u8], place: usize) -> Answered
         board.channels[0] = t0;
         board.channels[1] = t1;
         board.channels[2] = t2;
-        let fewer = owed.0 - 1;
+        let ticks = passed(skipped);
+        let fewer = owed.0 - ticks;
         let left = TimerTicks(fewer);
         board.owed = left;
-        made += 1;
+        made += ticks;
     }
     worked(board, made, at)
 }

@@ -26,7 +26,7 @@ inRoom room text bytes =
     cond (ltb (length bytes) room) (record { reply = refused 105; bytes = bytes })
     (record { reply = accepted (length text); bytes = text ++ drop (length text) bytes })
 
--- "48 for the head, for each operation and for the end, or 48 in all for a trace that is refused"
+-- "64 for the head, for each operation and for the end, or 64 in all for a trace that is refused"
 abbrev pub roomFor : Judgement Trace → ℕ
 roomFor (refusedAt number place) = lineRoom
 roomFor (sound t) = lineRoom * (length (t .operations) + 2)
@@ -39,7 +39,7 @@ replayInto trace bytes = inRoom (roomFor (readTrace trace)) (printed trace) byte
 abbrev pub answersOf : Trace → List ℕ
 answersOf t = toldFrom Answers (fresh (t .model) (t .divisor)) 0 (t .operations)
 
--- "3 and 9 to 14 of the trace, 105"; "12 for each operation"
+-- "3 and 9 to 14 of the trace, 105"; "16 for each operation"
 abbrev pub answersJudged : Judgement Trace → List ℕ → Replaying
 answersJudged (refusedAt number place) bytes = record { reply = refused number; bytes = bytes }
 answersJudged (sound t) bytes = inRoom (roomOf Answers * length (t .operations)) (answersOf t) bytes

@@ -23,10 +23,10 @@ abbrev pub said : Form → ℕ → Reply Value → List ℕ → ℕ → List ℕ
 said Lines index reply events left = operationLine index reply events left
 said Answers index reply events left = answerBytes reply events left
 
--- no line is longer than 48 bytes, and an answer has 12
+-- no line is longer than 64 bytes, and an answer has 16
 abbrev pub roomOf : Form → ℕ
 roomOf Lines = lineRoom
-roomOf Answers = 12
+roomOf Answers = 16
 
 -- what is said of an operation's outcome; what is `left` is the remainder after the operation
 abbrev pub saidOf : Form → ℕ → Outcome → List ℕ

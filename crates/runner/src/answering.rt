@@ -1,11 +1,11 @@
-// An operation's answer in 12 bytes: docs/ENCODING.md, "The answers of a trace".
+// An operation's answer in 16 bytes: docs/ENCODING.md, "The answers of a trace".
 use board::Answer;
 use time::SystemTicks;
 ghost use mathlib.Core.Path.{_≡_};
 ghost use Rattle.board.specs.Answer.{replyOf};
-ghost use Rattle.runner.specs.Answers.{saidIn, answerBytes};
+ghost use Rattle.runner.specs.Answers.{written, saidIn, answerBytes};
 
-// The refusal's number, how many event bytes were written, and the byte or the ticks answered; each 0 where there is none.
+// The refusal's number, how many event bytes were written, and the byte, the ticks yielded or the ticks made; each 0 where there is none.
 pub struct Said {
     pub refusal: u8,
     pub written: u8,
@@ -22,14 +22,14 @@ fn saying(written: u8, value: u32) -> Said
     }
 }
 
-// The events were lent at place 0, so a new place above 0 says that two bytes were written.
-fn place_said(at: usize) -> Said
-    ensures { λ r. ⌜ r ≡ saidIn (replyOf (Answer.Place at)) ⌝ }
+// The events were lent at place 0, so as many bytes were written as the new place says. No more than six are lent.
+fn written(at: usize) -> u8
+    ensures { λ r. ⌜ r ≡ written at ⌝ }
 {
-    if at == 0 {
-        return saying(0, 0);
+    if 6 < at {
+        return 6;
     }
-    saying(2, 0)
+    at as u8
 }
 
 fn said_in(answer: Answer) -> Said
@@ -41,9 +41,13 @@ fn said_in(answer: Answer) -> Said
             written: 0,
             value: 0,
         },
-        Answer::Place(at) => place_said(at),
+        Answer::Place(at) => saying(written(at), 0),
         Answer::Byte(byte) => saying(0, byte as u32),
         Answer::Ticks(number) => saying(0, number.0),
+        Answer::Worked(worked) => {
+            let made = worked.made;
+            saying(written(worked.place), made.0)
+        }
         Answer::Done => saying(0, 0),
         Answer::OutputState(_) => saying(0, 0),
         Answer::Count(_) => saying(0, 0),
@@ -52,7 +56,7 @@ fn said_in(answer: Answer) -> Said
     }
 }
 
-pub(crate) fn answer_bytes(answer: Answer, events: [u8; 2], left: SystemTicks) -> [u8; 12]
+pub(crate) fn answer_bytes(answer: Answer, events: [u8; 6], left: SystemTicks) -> [u8; 16]
     ensures { λ r. ⌜ r ≡ answerBytes (replyOf answer) events (left .0) ⌝ }
 {
     let said = said_in(answer);
@@ -63,6 +67,10 @@ pub(crate) fn answer_bytes(answer: Answer, events: [u8; 2], left: SystemTicks) -
         said.written,
         events[0],
         events[1],
+        events[2],
+        events[3],
+        events[4],
+        events[5],
         value[0],
         value[1],
         value[2],

@@ -1,7 +1,7 @@
 // The whole replay of a trace: from its bytes to the bytes that are printed, or to its answers in bytes. Nothing is put before the whole trace is judged.
 //
-// `tell` is the runner: one loop that owns the board and changes it where it stands. No function that the loop calls takes or hands back a board, and each arm ends
-// in its own `say`: arms that meet would have the board moved. answering.rt has an answer in bytes, lending.rt replays into lent bytes of any length.
+// `tell` is the runner: one loop that owns the board and changes it where it stands. No function that the loop calls takes or hands back a board, but for the one that
+// works ticks off, and each arm ends in its own `say`: arms that meet would have the board moved. answering.rt has an answer in bytes, lending.rt replays into lent bytes of any length.
 mod answering;
 pub mod lending;
 
@@ -28,7 +28,7 @@ ghost use Rattle.trace.specs.Answer.{soundness, operationsOf};
 ghost use Rattle.runner.specs.Printed.{said, roomOf, toldFrom, printedTrace, printed, Prints};
 ghost use Rattle.io.specs.Counts.{Counts};
 
-// What is said of each operation: its line, or its answer in 12 bytes.
+// What is said of each operation: its line, or its answer in 16 bytes.
 pub enum Form {
     Lines,
     Answers,
@@ -50,7 +50,7 @@ fn say(
     place: usize,
     index: u32,
     answer: Answer,
-    events: [u8; 2],
+    events: [u8; 6],
     left: SystemTicks,
 ) -> usize
     ensures { λ r. ⌜ (answered r (now (out .exit)) ≡ put (said form index (replyOf answer) events (left .0)) (now (out .entry)) place) × (length (said form index (replyOf answer) events (left .0)) ≤ roomOf form) ⌝ }
@@ -62,6 +62,10 @@ fn say(
                 answer,
                 events[0],
                 events[1],
+                events[2],
+                events[3],
+                events[4],
+                events[5],
                 left,
             ));
             put_line(out, place, line)
@@ -95,8 +99,9 @@ fn tell(
         let index = first + j;
         let operation = trace::operation_in(trace, index);
         j += 1;
-        let turn = turn::turn_of(operation);
-        let none = [0u8; 2];
+        let owing = b.owed;
+        let turn = turn::turn_of(operation, owing.0 != 0);
+        let none = [0u8; 6];
         match turn {
             Turn::OnChannel(n, work) => {
                 let i = n as usize;
@@ -174,12 +179,15 @@ fn tell(
                     remainder,
                     since,
                     b.defer,
+                    owing,
                 );
                 let left = elapsed.remainder;
                 let next = elapsed.warp;
+                let owes = elapsed.owed;
                 b.remainder = left;
                 b.warp = next;
                 b.defer = elapsed.defer;
+                b.owed = owes;
                 let answer = elapsed.answer;
                 at = say(form, out, at, index, answer, none, left);
             }
@@ -191,6 +199,16 @@ fn tell(
                 b.channels = channels;
                 let left = b.remainder;
                 at = say(form, out, at, index, Answer::Done, none, left);
+            }
+            // Many ticks are made in one call, so what it takes to hand the board over and back is small beside the work.
+            Turn::WorkOff(stated) => {
+                let mut six = [0u8; 6];
+                let worked = owed::work_off(b, stated, &mut six, 0);
+                let next = worked.board;
+                b = next;
+                let answer = worked.answer;
+                let left = b.remainder;
+                at = say(form, out, at, index, answer, six, left);
             }
             Turn::Say(answer) => {
                 let left = b.remainder;
@@ -218,9 +236,9 @@ fn replay_sound(trace: &[u8], head: Head, out: &mut [u8]) -> usize
     put_line(out, place, last)
 }
 
-// How many bytes are printed. They stand at the front; the rest stays as it was. There is room for every trace: 48 bytes for the head, for each of 4,096
+// How many bytes are printed. They stand at the front; the rest stays as it was. There is room for every trace: 64 bytes for the head, for each of 4,096
 // operations and for the end.
-pub fn replay(trace: &[u8], out: &mut [u8; 196704]) -> usize
+pub fn replay(trace: &[u8], out: &mut [u8; 262272]) -> usize
     ensures { λ r. ⌜ Prints (printed (now (trace .entry))) (now (out .entry)) r (now (out .exit)) ⌝ }
     ensures { λ r. ⌜ Counts r (now (out .exit)) ⌝ }
 {

@@ -13,7 +13,7 @@ use Rattle.numbers.proofs.Little.{long-back}
 use Rattle.channel.specs.declared.PitType.{PitType}
 use Rattle.trace.specs.declared.rule.Rule.the-variants.{None}
 use Rattle.trace.specs.declared.operation.Operation.{Operation}
-use Rattle.trace.specs.declared.operation.Operation.the-variants.{WritePort, ReadPort, SetChannelGate, Counts, LoadCycle, CatchUp, Run, Reset}
+use Rattle.trace.specs.declared.operation.Operation.the-variants.{WritePort, ReadPort, SetChannelGate, Counts, LoadCycle, CatchUp, Run, Reset, WorkOff}
 use Rattle.trace.specs.Judgement.{sound}
 use Rattle.numbers.specs.Number.{numberAt}
 use Rattle.channel.specs.Models.{modelNumber}
@@ -75,6 +75,7 @@ operation-back front rest i (LoadCycle channel) e h = six-back front rest i 5 ch
 operation-back front rest i (CatchUp given) e h = six-back front rest i 6 0 (given .0) e h refl
 operation-back front rest i (Run given) e h = six-back front rest i 7 0 (given .0) e h refl
 operation-back front rest i Reset e h = six-back front rest i 8 0 0 e (omega arith) refl
+operation-back front rest i (WorkOff stated) e h = six-back front rest i 9 0 stated e h refl
 
 six-long : (o : Operation) → length (operationBytes o) ≡ 6
 six-long (WritePort port byte) = refl
@@ -85,6 +86,7 @@ six-long (LoadCycle channel) = refl
 six-long (CatchUp given) = refl
 six-long (Run given) = refl
 six-long Reset = refl
+six-long (WorkOff stated) = refl
 
 operations-back : (front : List ℕ) (i : ℕ) (os : List Operation) → length front ≡ placeOf i → AllHold os
     → operationsFrom (front ++ operationsBytes os) i (length os) ≡ sound os

@@ -5,16 +5,17 @@ use mathlib.Core.Bool.{Bool, true, false, cond}
 use native.Mathlib.Omega.{arith}
 use lib.Dec.{ltb}
 use borrow.Author.Tests.{ne-eqb, ltb-false}
-use Rattle.trace.specs.declared.operation.Operation.the-variants.{Reset}
+use Rattle.trace.specs.declared.operation.Operation.the-variants.{WorkOff}
 use Rattle.trace.specs.declared.rule.Rule.{Rule}
 use Rattle.trace.specs.declared.rule.Rule.the-variants.{None, Code, Target, Number}
 use Rattle.trace.specs.Rule.{brokenRule}
 use Rattle.trace.specs.Operation.{operationOf, NoneOfFour}
 
--- what is no code below 8 is a reset
-pub last-code : (code target number : ℕ) → NoneOfFour code → (code ≡ 5 → ⊥) → (code ≡ 6 → ⊥) → (code ≡ 7 → ⊥) → Reset ≡ operationOf code target number
-last-code code target number few five six seven =
-    simp (ne-eqb code 1 (few .0), ne-eqb code 2 (few .1), ne-eqb code 3 (few .2), ne-eqb code 4 (few .3), ne-eqb code 5 five, ne-eqb code 6 six, ne-eqb code 7 seven)
+-- what is no code below 9 works ticks off
+pub last-code : (code target number : ℕ) → NoneOfFour code → (code ≡ 5 → ⊥) → (code ≡ 6 → ⊥) → (code ≡ 7 → ⊥) → (code ≡ 8 → ⊥)
+    → WorkOff number ≡ operationOf code target number
+last-code code target number few five six seven eight =
+    simp (ne-eqb code 1 (few .0), ne-eqb code 2 (few .1), ne-eqb code 3 (few .2), ne-eqb code 4 (few .3), ne-eqb code 5 five, ne-eqb code 6 six, ne-eqb code 7 seven, ne-eqb code 8 eight)
 
 abbrev Kept : Rule → Type 0
 Kept None = Unit

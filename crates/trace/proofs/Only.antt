@@ -16,7 +16,7 @@ use Rattle.trace.specs.declared.rule.Rule.{Rule}
 use Rattle.trace.specs.declared.rule.Rule.the-variants.{None, Code, Target, Number}
 use Rattle.trace.specs.declared.head.Head.{Head}
 use Rattle.trace.specs.declared.operation.Operation.{Operation}
-use Rattle.trace.specs.declared.operation.Operation.the-variants.{WritePort, ReadPort, SetChannelGate, Counts, LoadCycle, CatchUp, Run, Reset}
+use Rattle.trace.specs.declared.operation.Operation.the-variants.{WritePort, ReadPort, SetChannelGate, Counts, LoadCycle, CatchUp, Run, Reset, WorkOff}
 use Rattle.trace.specs.Judgement.{sound, andThen}
 use Rattle.numbers.specs.Number.{numberAt}
 use Rattle.channel.specs.Models.{modelNumber}
@@ -81,7 +81,7 @@ flag-back (suc zero) h = refl
 flag-back (suc (suc number)) h = absurd (omega arith)
 
 -- the operation that six bytes are by the rules has these six bytes
-by-rules : (code target number : ℕ) → (1 ≤ code) × (code ≤ 8) → TargetRule code target → NumberRule code number → target < 256 → number < 4294967296
+by-rules : (code target number : ℕ) → (1 ≤ code) × (code ≤ 9) → TargetRule code target → NumberRule code number → target < 256 → number < 4294967296
     → Holds (operationOf code target number) × (operationBytes (operationOf code target number) ≡ six code target number)
 by-rules code target number known t n byte fits =
     let P : Operation → Type 0 = λ o. Holds o × (operationBytes o ≡ six code target number) in
@@ -94,9 +94,10 @@ by-rules code target number known t n byte fits =
     pick-knowing P (eqb code 5) _ _ (λ e. (byte, rw (n .0 (inr (inl (is 5 e)))) (rw (is 5 e) refl))) (λ not-5.
     pick-knowing P (eqb code 6) _ _ (λ e. (fits, rw (t (inl (is 6 e))) (rw (is 6 e) refl))) (λ not-6.
     pick-knowing P (eqb code 7) _ _ (λ e. (fits, rw (t (inr (inl (is 7 e)))) (rw (is 7 e) refl))) (λ not-7.
+    pick-knowing P (eqb code 8) _ _ (λ e. (tt, rw (t (inr (inr (inl (is 8 e))))) (rw (n .0 (inr (inr (is 8 e)))) (rw (is 8 e) refl)))) (λ not-8.
     let above : 4 < code = omega (arith, known .0, apart 1 not-1, apart 2 not-2, apart 3 not-3, apart 4 not-4) in
-    let last : code ≡ 8 = omega (arith, known .1, apart 5 not-5, apart 6 not-6, apart 7 not-7) in
-    (tt, rw (t (inr (inr last))) (rw (n .0 (inr (inr last))) (rw last refl))))))))))
+    let last : code ≡ 9 = omega (arith, known .1, apart 5 not-5, apart 6 not-6, apart 7 not-7, apart 8 not-8) in
+    (fits, rw (t (inr (inr (inr last)))) (rw last refl))))))))))
 
 -- the operation that was read at an index has the six bytes there
 abbrev Written : List ℕ → ℕ → Operation → Type 0
@@ -193,6 +194,7 @@ operation-bytes (LoadCycle channel) h = six-bytes 5 channel 0 (omega arith) h
 operation-bytes (CatchUp given) h = six-bytes 6 0 (given .0) (omega arith) (omega arith)
 operation-bytes (Run given) h = six-bytes 7 0 (given .0) (omega arith) (omega arith)
 operation-bytes Reset h = six-bytes 8 0 0 (omega arith) (omega arith)
+operation-bytes (WorkOff stated) h = six-bytes 9 0 stated (omega arith) (omega arith)
 
 operations-bytes : (os : List Operation) → AllHold os → AllBytes (operationsBytes os)
 operations-bytes [] h = tt

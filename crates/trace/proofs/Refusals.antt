@@ -23,24 +23,27 @@ use Rattle.trace.specs.Trace.{before, operationsFrom, traceOf, afterHead
 use Rattle.trace.specs.Refusals.{Row, endsBefore, settingsCount, divisorZero, modelAbove1, tooManyOperations, unknownCode, TargetRule, targetNotZero, NumberRule, numberBreaksRule, bytesAfter, operationOrder, operationsOrder, order, FirstAt}
 use Rattle.trace.proofs.Deciding.{Decided, accepts, tested, made-of, one-of, at-most, is, free, neither, guarded, breaks}
 
-pub code-kept : (code : ℕ) → (codeBroken code ≡ false) ↔ ((1 ≤ code) × (code ≤ 8))
+pub code-kept : (code : ℕ) → (codeBroken code ≡ false) ↔ ((1 ≤ code) × (code ≤ 9))
 code-kept code =
-    let both = neither (eqb code 0) (ltb 8 code) (eqb-false code 0, ne-eqb code 0) (at-most 8 code) in (
+    let both = neither (eqb code 0) (ltb 9 code) (eqb-false code 0, ne-eqb code 0) (at-most 9 code) in (
       λ e. let kept = both .0 e in (omega (arith, kept .0), kept .1),
       λ kept. let least = kept .0 in both .1 (λ none. absurd (omega arith), kept .1),
     )
 
-last-three : (code : ℕ) → 6 ≤ code → code ≤ 8 → (code ≡ 6) ⊎ ((code ≡ 7) ⊎ (code ≡ 8))
-last-three code l h =
+last-four : (code : ℕ) → 6 ≤ code → code ≤ 9 → (code ≡ 6) ⊎ ((code ≡ 7) ⊎ ((code ≡ 8) ⊎ (code ≡ 9)))
+last-four code l h =
     ⊎-elim (λ six. inl (sym six))
-    (λ above. inr (⊎-elim (λ seven. inl (sym seven)) (λ past. inr (omega arith)) (eq-or-lt-of-le above)))
+    (λ above.
+    inr (⊎-elim (λ seven. inl (sym seven))
+    (λ past. inr (⊎-elim (λ eight. inl (sym eight)) (λ last. inr (omega arith)) (eq-or-lt-of-le past)))
+    (eq-or-lt-of-le above)))
     (eq-or-lt-of-le l)
 
-pub target-kept : (code target : ℕ) → code ≤ 8 → (targetBroken code target ≡ false) ↔ TargetRule code target
+pub target-kept : (code target : ℕ) → code ≤ 9 → (targetBroken code target ≡ false) ↔ TargetRule code target
 target-kept code target h =
     let by-code = guarded (ltb code 6) false (not (eqb target 0)) (below code 6) free (is target 0) in (
-      λ e three. by-code .0 e .1 (λ low. ⊎-elim (λ q. absurd (omega arith)) (⊎-elim (λ q. absurd (omega arith)) (λ q. absurd (omega arith))) three),
-      λ kept. by-code .1 (λ low. tt, λ high. kept (last-three code (omega arith) h)),
+      λ e four. by-code .0 e .1 (λ low. ⊎-elim (λ q. absurd (omega arith)) (⊎-elim (λ q. absurd (omega arith)) (⊎-elim (λ q. absurd (omega arith)) (λ q. absurd (omega arith)))) four),
+      λ kept. by-code .1 (λ low. tt, λ high. kept (last-four code (omega arith) h)),
     )
 
 pub number-kept : (code number : ℕ) → (numberBroken code number ≡ false) ↔ NumberRule code number

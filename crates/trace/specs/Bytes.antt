@@ -6,7 +6,7 @@ use Rattle.numbers.specs.Flags.{flagNumber}
 use Rattle.numbers.specs.Little.{fourBytes}
 use Rattle.channel.specs.Models.{modelNumber}
 use Rattle.trace.specs.declared.operation.Operation.{Operation}
-use Rattle.trace.specs.declared.operation.Operation.the-variants.{WritePort, ReadPort, SetChannelGate, Counts, LoadCycle, CatchUp, Run, Reset}
+use Rattle.trace.specs.declared.operation.Operation.the-variants.{WritePort, ReadPort, SetChannelGate, Counts, LoadCycle, CatchUp, Run, Reset, WorkOff}
 use Rattle.trace.specs.Trace.{Trace}
 
 -- every number of a list is a byte. What a program reads is: its type says so
@@ -18,7 +18,8 @@ AllBytes (x ∷ xs) = (x < 256) × AllBytes xs
 abbrev pub six : ℕ → ℕ → ℕ → List ℕ
 six code target number = code ∷ target ∷ fourBytes number
 
--- "Codes: 1 write port, 2 read port, 3 gate, 4 counts, 5 load cycle, 6 catch-up, 7 run, 8 reset. Target 0 for 6, 7, 8. Number 0 for 2, 5, 8"
+-- "Codes: 1 write port, 2 read port, 3 gate, 4 counts, 5 load cycle, 6 catch-up, 7 run, 8 reset. Target 0 for 6, 7, 8. Number 0 for 2, 5, 8"; "Trace code 9, target 0"
+-- (02, L1)
 abbrev pub operationBytes : Operation → List ℕ
 operationBytes (WritePort port byte) = six 1 port byte
 operationBytes (ReadPort port) = six 2 port 0
@@ -28,6 +29,7 @@ operationBytes (LoadCycle channel) = six 5 channel 0
 operationBytes (CatchUp given) = six 6 0 (given .0)
 operationBytes (Run given) = six 7 0 (given .0)
 operationBytes Reset = six 8 0 0
+operationBytes (WorkOff stated) = six 9 0 stated
 
 -- one operation after another
 abbrev pub operationsBytes : List Operation → List ℕ
@@ -50,6 +52,7 @@ Holds (LoadCycle channel) = channel < 256
 Holds (CatchUp given) = given .0 < 4294967296
 Holds (Run given) = given .0 < 4294967296
 Holds Reset = Unit
+Holds (WorkOff stated) = stated < 4294967296
 
 -- .. of every operation of a list
 abbrev pub AllHold : List Operation → Type 0

@@ -9,11 +9,12 @@ use Rattle.numbers.specs.Number.{numberAt}
 use Rattle.trace.specs.declared.rule.Rule.{Rule}
 use Rattle.trace.specs.declared.rule.Rule.the-variants.{None, Code, Target, Number}
 use Rattle.trace.specs.declared.operation.Operation.{Operation}
-use Rattle.trace.specs.declared.operation.Operation.the-variants.{WritePort, ReadPort, SetChannelGate, Counts, LoadCycle, CatchUp, Run, Reset}
+use Rattle.trace.specs.declared.operation.Operation.the-variants.{WritePort, ReadPort, SetChannelGate, Counts, LoadCycle, CatchUp, Run, Reset, WorkOff}
 use Rattle.trace.specs.Judgement.{Judgement, refusedAt, sound, present}
 use Rattle.trace.specs.Rule.{brokenRule}
 
--- "Codes: 1 write port, 2 read port, 3 gate, 4 counts, 5 load cycle, 6 catch-up, 7 run, 8 reset."
+-- "Codes: 1 write port, 2 read port, 3 gate, 4 counts, 5 load cycle, 6 catch-up, 7 run, 8 reset."; "Trace code 9, target 0, works
+-- ticks off" (02, L1)
 abbrev pub operationOf : ℕ → ℕ → ℕ → Operation
 operationOf code target number =
     cond (eqb code 1) (WritePort target number)
@@ -22,13 +23,14 @@ operationOf code target number =
     (cond (eqb code 4) (Counts target number)
     (cond (eqb code 5) (LoadCycle target)
     (cond (eqb code 6) (CatchUp (record { 0 = number }))
-    (cond (eqb code 7) (Run (record { 0 = number })) Reset))))))
+    (cond (eqb code 7) (Run (record { 0 = number }))
+    (cond (eqb code 8) Reset (WorkOff number))))))))
 
 -- a code that is none of the first four
 abbrev pub NoneOfFour : ℕ → Type 0
 NoneOfFour code = (code ≡ 1 → ⊥) × (code ≡ 2 → ⊥) × (code ≡ 3 → ⊥) × (code ≡ 4 → ⊥)
 
--- 12 "operation code not 1 to 8", 14 "a trace's ... target or number breaks its rule": each at its field
+-- 12 "operation code not 1 to 8" ("12 now means not 1 to 9": 02, L1), 14 "a trace's ... target or number breaks its rule": each at its field
 abbrev pub judgedBy : {A : Type 0} → Rule → ℕ → A → Judgement A
 judgedBy None place value = sound value
 judgedBy Code place value = refusedAt 12 place

@@ -33,13 +33,13 @@ modelAbove1 bytes = record { number = 14; place = 8; condition = 1 < numberAt by
 abbrev pub tooManyOperations : List ℕ → Row
 tooManyOperations bytes = record { number = 11; place = 12; condition = 4096 < numberAt bytes 12 }
 
--- 12: "operation code not 1 to 8"
+-- 12: "operation code not 1 to 8"; "12 now means not 1 to 9" (02, L1)
 abbrev pub unknownCode : List ℕ → ℕ → Row
-unknownCode bytes place = record { number = 12; place = place; condition = (1 ≤ getD bytes place 0) × (getD bytes place 0 ≤ 8) → ⊥ }
+unknownCode bytes place = record { number = 12; place = place; condition = (1 ≤ getD bytes place 0) × (getD bytes place 0 ≤ 9) → ⊥ }
 
--- "Target 0 for 6, 7, 8."
+-- "Target 0 for 6, 7, 8."; "Trace code 9, target 0" (02, L1)
 abbrev pub TargetRule : ℕ → ℕ → Type 0
-TargetRule code target = (code ≡ 6) ⊎ ((code ≡ 7) ⊎ (code ≡ 8)) → target ≡ 0
+TargetRule code target = (code ≡ 6) ⊎ ((code ≡ 7) ⊎ ((code ≡ 8) ⊎ (code ≡ 9))) → target ≡ 0
 
 -- 14: "a trace's ... target ... breaks its rule"
 abbrev pub targetNotZero : List ℕ → ℕ → Row

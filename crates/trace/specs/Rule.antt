@@ -5,15 +5,15 @@ use lib.Dec.{eqb, ltb}
 use Rattle.trace.specs.declared.rule.Rule.{Rule}
 use Rattle.trace.specs.declared.rule.Rule.the-variants.{None, Code, Target, Number}
 
--- 12 "operation code not 1 to 8"
+-- 12 "operation code not 1 to 8"; "12 now means not 1 to 9" (02, L1)
 abbrev pub codeBroken : ℕ → Bool
-codeBroken code = eqb code 0 || ltb 8 code
+codeBroken code = eqb code 0 || ltb 9 code
 
--- "Target 0 for 6, 7, 8." The code is tested before, so from 6 on it is one of these
+-- "Target 0 for 6, 7, 8."; "Trace code 9, target 0" (02, L1). The code is tested before, so from 6 on it is one of these
 abbrev pub targetBroken : ℕ → ℕ → Bool
 targetBroken code target = cond (ltb code 6) false (not (eqb target 0))
 
--- "Number 0 for 2, 5, 8; at most 255 for 1; at most 1 for 3."
+-- "Number 0 for 2, 5, 8; at most 255 for 1; at most 1 for 3." Code 9 has no rule of its number: one above 65,536 is refused when it is run
 abbrev pub numberBroken : ℕ → ℕ → Bool
 numberBroken code number =
     cond (eqb code 2 || (eqb code 5 || eqb code 8)) (not (eqb number 0))

@@ -24,6 +24,8 @@ pub enum Operation {
     CatchUp(SystemTicks),
     Run(SystemTicks),
     Reset,
+    // How many owed ticks to work off at most.
+    WorkOff(u32),
 }
 
 pub enum OperationJudged {
@@ -31,7 +33,7 @@ pub enum OperationJudged {
     Refused(Fault),
 }
 
-// Codes 5 to 8, and any other as 8.
+// Codes 5 to 9, and any other as 9.
 fn later_operation(code: u8, target: u8, number: u32) -> Operation
     requires { ⌜ NoneOfFour code ⌝ }
     ensures { λ r. ⌜ r ≡ operationOf code target number ⌝ }
@@ -40,7 +42,8 @@ fn later_operation(code: u8, target: u8, number: u32) -> Operation
         5 => Operation::LoadCycle(target),
         6 => Operation::CatchUp(SystemTicks(number)),
         7 => Operation::Run(SystemTicks(number)),
-        _ => Operation::Reset,
+        8 => Operation::Reset,
+        _ => Operation::WorkOff(number),
     }
 }
 

@@ -38,7 +38,7 @@ pub fn broken_rule(code: u8, target: u8, number: u32) -> Rule
     if code == 0 {
         return Rule::Code;
     }
-    if 8 < code {
+    if 9 < code {
         return Rule::Code;
     }
     if target_broken(code, target) {

@@ -1,3 +1,4 @@
+pub mod Padded
 pub mod Room
 pub mod Turn
 pub mod Steps

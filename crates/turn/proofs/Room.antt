@@ -10,7 +10,7 @@ use Rattle.event.specs.declared.Event.the-variants.{Unchanged, Level}
 use Rattle.event.specs.Event.{placeEvent}
 use Rattle.event.proofs.Room.{standing-level}
 use Rattle.board.specs.Outcome.{newPlace}
-use Rattle.turn.specs.Asked.{lent}
+use Rattle.turn.specs.Asked.{lent, six}
 use Rattle.turn.specs.Turn.{changed}
 
 pub enough : (event : Event) (k : ℕ) → placeEvent event lent 0 .reply ≡ refused k → ⊥
@@ -20,6 +20,6 @@ enough (Level channel level) k e = not-refused 2 k e
 
 -- a latch leaves the output as it is, so it raises no event
 pub latch-quiet : (n : ℕ) (c next : Channel) → next ≡ latchCount c
-    → changed n c (latchCount c) lent ≡ record { reply = accepted (newPlace 0); channel = next; events = lent }
+    → changed n c (latchCount c) ≡ record { reply = accepted (newPlace 0); channel = next; events = six }
 unfolding latchCount placeEvent
 latch-quiet n c next is = rw is (simp (standing-level n (c .pins .output)))

@@ -1,6 +1,7 @@
--- What an operation of a trace asks of the board.
+-- What an operation of a trace asks of the board, and the event bytes that are lent for it.
 use Prim.Native.Nat.{ℕ}
 use mathlib.Core.List.{List, [], _∷_}
+use lib.ListN.{getD}
 use Rattle.trace.specs.declared.operation.Operation.{Operation}
 use Rattle.trace.specs.declared.operation.Operation.the-variants as recorded
 use Rattle.step.specs.Operation as call
@@ -9,7 +10,11 @@ use Rattle.step.specs.Operation as call
 abbrev pub lent : List ℕ
 lent = 0 ∷ 0 ∷ []
 
--- the call of the board: "1 write port, 2 read port, 3 gate, 4 counts, 5 load cycle, 6 catch-up, 7 run, 8 reset"
+-- "Trace code 9, target 0, works ticks off with six event bytes lent" (02, L1)
+abbrev pub six : List ℕ
+six = 0 ∷ 0 ∷ 0 ∷ 0 ∷ 0 ∷ 0 ∷ []
+
+-- the call of the board: "1 write port, 2 read port, 3 gate, 4 counts, 5 load cycle, 6 catch-up, 7 run, 8 reset", and 9 "works ticks off"
 abbrev pub asked : Operation → call.Operation
 asked (recorded.WritePort port byte) = call.WritePort port byte lent 0
 asked (recorded.ReadPort port) = call.ReadPort port
@@ -19,14 +24,9 @@ asked (recorded.LoadCycle channel) = call.LoadCycle channel
 asked (recorded.CatchUp given) = call.CatchUp (given .0)
 asked (recorded.Run given) = call.Run (given .0)
 asked recorded.Reset = call.Reset
+asked (recorded.WorkOff stated) = call.WorkOff stated six 0
 
--- the two lent bytes after the call: a write and a gate leave their event there, the others take no event bytes
-abbrev pub lentAfter : Operation → List ℕ → List ℕ
-lentAfter (recorded.WritePort port byte) events = events
-lentAfter (recorded.ReadPort port) events = lent
-lentAfter (recorded.SetChannelGate channel level) events = events
-lentAfter (recorded.Counts channel number) events = lent
-lentAfter (recorded.LoadCycle channel) events = lent
-lentAfter (recorded.CatchUp given) events = lent
-lentAfter (recorded.Run given) events = lent
-lentAfter recorded.Reset events = lent
+-- the lent bytes after a call, in six places whatever was lent, with zeros where none was
+abbrev pub padded : List ℕ → List ℕ
+padded events =
+    getD events 0 0 ∷ getD events 1 0 ∷ getD events 2 0 ∷ getD events 3 0 ∷ getD events 4 0 ∷ getD events 5 0 ∷ []

@@ -1,12 +1,14 @@
--- The turn of a recorded operation: its port or channel found, and what is refused without a look at the board refused.
+-- The turn of a recorded operation: its port or channel found, and what is refused without a look at the board, but for whether it owes ticks, refused.
 use Prim.Native.Nat.{ℕ}
-use mathlib.Core.Bool.{true, false, cond}
+use mathlib.Core.Bool.{Bool, true, false, cond}
+use mathlib.Core.Path.{_≡_}
 use lib.Dec.{ltb}
 use Rattle.refusal.specs.declared.Refusal.{Refusal}
-use Rattle.refusal.specs.declared.Refusal.the-variants.{PortUnknown, ChannelAbove2, TooManyCounts}
+use Rattle.refusal.specs.declared.Refusal.the-variants.{PortUnknown, ChannelAbove2, TooManyCounts, TicksOwed}
 use Rattle.control.specs.declared.Command.{Command}
 use Rattle.control.specs.declared.Command.the-variants as command
 use Rattle.control.specs.Control.{commandOf}
+use Rattle.board.specs.declared.Board.{Board}
 use Rattle.board.specs.declared.Answer.the-variants.{Refused, Place, Byte}
 use Rattle.ports.specs.declared.port.Port.{Port}
 use Rattle.ports.specs.declared.port.Port.the-variants as port
@@ -15,11 +17,17 @@ use Rattle.trace.specs.declared.operation.Operation.{Operation}
 use Rattle.trace.specs.declared.operation.Operation.the-variants as recorded
 use Rattle.turn.specs.declared.finding.Work.the-variants as work
 use Rattle.turn.specs.declared.finding.Turn.{Turn}
-use Rattle.turn.specs.declared.finding.Turn.the-variants.{OnChannel, Elapse, Reset, Say}
+use Rattle.turn.specs.declared.finding.Turn.the-variants.{OnChannel, Elapse, Reset, WorkOff, Say}
+use Rattle.turn.specs.Made.{make}
+use Rattle.turn.specs.Turn.{owes, turned, OnBoard}
 
 -- "Each returns its number and the same board"
 abbrev pub refuse : Refusal → Turn
 refuse refusal = Say (Refused refusal)
+
+-- 16 "for a port write, gate, reset, catch-up or run while ticks are owed, right after 1, 2 or 3" (02, L1). Those of time have it in `timeAfter`
+abbrev pub unlessOwing : Bool → Turn → Turn
+unlessOwing owing turn = cond owing (refuse TicksOwed) turn
 
 -- "one of three commands: nothing ..., latch, or mode set". Nothing answers the place that was lent, 0
 abbrev pub commandTurn : Command → Turn
@@ -27,11 +35,11 @@ commandTurn command.Nothing = Say (Place 0)
 commandTurn (command.LatchCount n) = OnChannel n work.Latch
 commandTurn (command.SetMode n word) = OnChannel n (work.SetMode word)
 
--- 1 "port not 0x40 to 0x43"
-abbrev pub writeTurn : Port → ℕ → Turn
-writeTurn (port.Data n) byte = OnChannel n (work.Write byte)
-writeTurn port.Command byte = commandTurn (commandOf byte)
-writeTurn port.Unknown byte = refuse PortUnknown
+-- 1 "port not 0x40 to 0x43", then 16, whatever the byte would do
+abbrev pub writeTurn : Bool → Port → ℕ → Turn
+writeTurn owing (port.Data n) byte = unlessOwing owing (OnChannel n (work.Write byte))
+writeTurn owing port.Command byte = unlessOwing owing (commandTurn (commandOf byte))
+writeTurn owing port.Unknown byte = refuse PortUnknown
 
 -- "The command port reads 0."
 abbrev pub readTurn : Port → Turn
@@ -43,14 +51,21 @@ readTurn port.Unknown = refuse PortUnknown
 abbrev pub channelTurn : ℕ → Turn → Turn
 channelTurn channel turn = cond (ltb 2 channel) (refuse ChannelAbove2) turn
 
--- 6 "more than 65,536 counts asked in one call"; "Catch-up then sets the warp to its ticks and the defer flag to true; run sets the warp to 0"
-unfoldable pub turnOf : Operation → Turn
-turnOf (recorded.WritePort number byte) = writeTurn (portOf number) byte
-turnOf (recorded.ReadPort number) = readTurn (portOf number)
-turnOf (recorded.SetChannelGate channel level) = channelTurn channel (OnChannel channel (work.SetGate level))
-turnOf (recorded.Counts channel number) =
+-- 6 "more than 65,536 counts asked in one call"; 16 where ticks are owed, for a gate right after 2; "Catch-up then sets the warp to its ticks and the defer flag
+-- to true; run sets the warp to 0"
+unfoldable pub turnOf : Bool → Operation → Turn
+turnOf owing (recorded.WritePort number byte) = writeTurn owing (portOf number) byte
+turnOf owing (recorded.ReadPort number) = readTurn (portOf number)
+turnOf owing (recorded.SetChannelGate channel level) = channelTurn channel (unlessOwing owing (OnChannel channel (work.SetGate level)))
+turnOf owing (recorded.Counts channel number) =
     channelTurn channel (cond (ltb 65536 number) (refuse TooManyCounts) (OnChannel channel (work.Counts number)))
-turnOf (recorded.LoadCycle channel) = channelTurn channel (OnChannel channel work.LoadCycle)
-turnOf (recorded.CatchUp given) = Elapse given given true
-turnOf (recorded.Run given) = Elapse given (record { 0 = 0 }) false
-turnOf recorded.Reset = Reset
+turnOf owing (recorded.LoadCycle channel) = channelTurn channel (OnChannel channel work.LoadCycle)
+turnOf owing (recorded.CatchUp given) = Elapse given given true
+turnOf owing (recorded.Run given) = Elapse given (record { 0 = 0 }) false
+turnOf owing recorded.Reset = unlessOwing owing Reset
+turnOf owing (recorded.WorkOff stated) = WorkOff stated
+
+-- what is promised of the turn that the code finds: it is this one, and on every board that owes ticks or owes none, as was said, it comes to what the operation
+-- does; its channel is one of the board's
+abbrev pub Finds : Bool → Operation → Turn → Type 0
+Finds owing o t = (t ≡ turnOf owing o) × ((b : Board) → owes b ≡ owing → make b o ≡ turned b t) × OnBoard t

@@ -1,4 +1,4 @@
--- An operation of a trace made on a board: one step of the board, with the two lent bytes after it.
+-- An operation of a trace made on a board: one step of the board, with the lent bytes after it.
 use mathlib.Core.List.{List, [], _∷_}
 use Rattle.trace.specs.declared.operation.Operation.{Operation}
 use Rattle.board.specs.declared.Board.{Board}
@@ -6,15 +6,15 @@ use Rattle.board.specs.Outcome.{Outcome}
 use Rattle.board.specs.Answer.{replyOf}
 use Rattle.step.specs.Step.{step}
 use Rattle.turn.specs.declared.making.Made.{Made}
-use Rattle.turn.specs.Asked.{asked, lentAfter}
+use Rattle.turn.specs.Asked.{asked, padded}
 
--- a call's reply and board, and the two lent bytes after it
-abbrev pub withLent : Operation → Outcome → Outcome
-withLent o outcome = record { reply = outcome .reply; board = outcome .board; events = lentAfter o (outcome .events) }
+-- a call's reply and board, and the lent bytes after it in six places
+abbrev pub inSix : Outcome → Outcome
+inSix outcome = record { reply = outcome .reply; board = outcome .board; events = padded (outcome .events) }
 
 -- an operation is one step of the board (step/specs/Step.antt); "Ports and channels are checked only when run."
 unfoldable pub make : Board → Operation → Outcome
-make b o = withLent o (step b (asked o))
+make b o = inSix (step b (asked o))
 
 -- the board after a list of operations: "A refused operation does not stop the rest."
 abbrev pub makeAll : Board → List Operation → Board

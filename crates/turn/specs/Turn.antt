@@ -1,8 +1,9 @@
--- An operation whose port or channel is found, and what it does to one channel's record or to the board's time: the form in which the runner changes the board
--- where it stands. proofs/Turn.antt shows that nothing else is meant than `make`.
+-- An operation whose port or channel is found, and what it does to one channel's record, to the board's time or to its owed ticks: the form in which the runner
+-- changes the board where it stands. proofs/Turn.antt shows that nothing else is meant than `make`.
 use Prim.Native.Nat.{ℕ, _<_}
-use mathlib.Core.Bool.{Bool, _||_}
+use mathlib.Core.Bool.{Bool, not, cond, _||_}
 use mathlib.Core.List.{List}
+use lib.Dec.{eqb}
 use Rattle.numbers.specs.Times.{times}
 use Rattle.refusal.specs.Reply.{Reply, refused, accepted}
 use Rattle.channel.specs.declared.Channel.{Channel}
@@ -15,24 +16,29 @@ use Rattle.load.specs.Cycle.{loadCycle}
 use Rattle.load.specs.Write.{writeByte}
 use Rattle.gate.specs.Gate.{setGate}
 use Rattle.mode.specs.Mode.{setMode}
-use Rattle.time.specs.Time.{Yield}
+use Rattle.time.specs.Time.{Yield, ticksFromTime}
 use Rattle.event.specs.Event.{Placing, placeEvent}
 use Rattle.board.specs.declared.Board.{Board}
 use Rattle.board.specs.Board.{channelAt, withChannel, withTime}
 use Rattle.board.specs.Outcome.{Outcome, Value, done, byte, ticks}
-use Rattle.board.specs.Making.{reset}
+use Rattle.board.specs.Making.{restored}
 use Rattle.board.specs.Answer.{replyOf}
-use Rattle.clock.specs.Clock.{elapsed}
 use Rattle.ports.specs.Settle.{levelEvent, callReply}
+use Rattle.owed.specs.Worked.{workOff}
 use Rattle.turn.specs.declared.finding.Work.{Work}
 use Rattle.turn.specs.declared.finding.Work.the-variants as work
 use Rattle.turn.specs.declared.finding.Turn.{Turn}
 use Rattle.turn.specs.declared.finding.Turn.the-variants as turn
 use Rattle.turn.specs.declared.raising.Raised.{Raised}
 use Rattle.turn.specs.declared.elapsing.Elapsed.{Elapsed}
-use Rattle.turn.specs.Asked.{lent}
+use Rattle.turn.specs.Asked.{lent, six, padded}
+use Rattle.turn.specs.Made.{inSix}
 
--- what is said, the channel's record after it, and the lent bytes
+-- ticks are owed
+abbrev pub owes : Board → Bool
+owes b = not (eqb (b .owed .0) 0)
+
+-- what is said, the channel's record after it, and the lent bytes in six places
 pub record WorkDone : Type 0 where
   pub reply : Reply Value
   pub channel : Channel
@@ -46,61 +52,79 @@ recordAfter (accepted place) old new = new
 -- the event's refusal or its new place is the work's
 abbrev pub settledOn : Channel → Channel → Placing → WorkDone
 settledOn old new placing =
-    record { reply = callReply (placing .reply); channel = recordAfter (placing .reply) old new; events = placing .bytes }
+    record { reply = callReply (placing .reply); channel = recordAfter (placing .reply) old new; events = padded (placing .bytes) }
 
 -- a new record of channel n, with two bytes lent "at place 0" for the event of its output
-abbrev pub changed : ℕ → Channel → Channel → List ℕ → WorkDone
-changed n old new events = settledOn old new (placeEvent (levelEvent n old new) events 0)
+abbrev pub changed : ℕ → Channel → Channel → WorkDone
+changed n old new = settledOn old new (placeEvent (levelEvent n old new) lent 0)
 
--- "Reads come from the output latch": the byte, and the record that the read leaves
-abbrev pub readDone : ByteRead → List ℕ → WorkDone
-readDone r events = record { reply = accepted (byte (r .byte)); channel = r .channel; events = events }
+-- "Reads come from the output latch": the byte, and the record that the read leaves; of an event nothing is told
+abbrev pub readDone : ByteRead → WorkDone
+readDone r = record { reply = accepted (byte (r .byte)); channel = r .channel; events = six }
+
+-- a new record of a channel of which nothing more is told
+abbrev pub quiet : Channel → WorkDone
+quiet new = record { reply = accepted done; channel = new; events = six }
 
 -- the work on the record of channel n, with the board's model and defer flag
-abbrev pub workOn : Channel → ℕ → Work → PitType → Bool → List ℕ → WorkDone
-workOn c n (work.Write x) model defer events = changed n c (writeByte c x defer) events
-workOn c n work.Latch model defer events = changed n c (latchCount c) events
-workOn c n (work.SetMode word) model defer events = changed n c (setMode c word model) events
-workOn c n (work.SetGate level) model defer events = changed n c (setGate c level) events
-workOn c n work.Read model defer events = readDone (readByte c) events
-workOn c n (work.Counts number) model defer events = record { reply = accepted done; channel = times number count c; events = events }
-workOn c n work.LoadCycle model defer events = record { reply = accepted done; channel = loadCycle c; events = events }
+abbrev pub workOn : Channel → ℕ → Work → PitType → Bool → WorkDone
+workOn c n (work.Write x) model defer = changed n c (writeByte c x defer)
+workOn c n work.Latch model defer = changed n c (latchCount c)
+workOn c n (work.SetMode word) model defer = changed n c (setMode c word model)
+workOn c n (work.SetGate level) model defer = changed n c (setGate c level)
+workOn c n work.Read model defer = readDone (readByte c)
+workOn c n (work.Counts number) model defer = quiet (times number count c)
+workOn c n work.LoadCycle model defer = quiet (loadCycle c)
 
 -- the work on its channel, put back at its place
 abbrev pub workedOn : Board → ℕ → WorkDone → Outcome
 workedOn b n w = record { reply = w .reply; board = withChannel b n (w .channel); events = w .events }
 
--- what is said, and the board's remainder, warp and defer flag after it
+-- what is said, and the board's remainder, warp, defer flag and owed ticks after it
 pub record TimeDone : Type 0 where
   pub reply : Reply Value
   pub remainder : ℕ
   pub warp : ℕ
   pub defer : Bool
+  pub owed : ℕ
 
--- "yields quotient by the divisor as timer ticks, keeps the rest", and leaves the next warp; the defer flag is set or stays. A refusal changes none of them
-abbrev pub timeAfter : ℕ → ℕ → Bool → ℕ → Bool → Reply Yield → TimeDone
-timeAfter remainder warp defer next defers (refused number) =
-    record { reply = refused number; remainder = remainder; warp = warp; defer = defer }
-timeAfter remainder warp defer next defers (accepted made) =
-    record { reply = accepted (ticks (made .ticks)); remainder = made .remainder; warp = next; defer = defers || defer }
+-- a refusal changes none of them
+abbrev pub timeKept : ℕ → ℕ → ℕ → Bool → ℕ → TimeDone
+timeKept number remainder warp defer owed = record { reply = refused number; remainder = remainder; warp = warp; defer = defer; owed = owed }
+
+-- "yields quotient by the divisor as timer ticks, keeps the rest", and leaves the next warp; the defer flag is set or stays; the ticks "become owed ticks on the
+-- board" (02, L1)
+abbrev pub timeYielded : ℕ → Bool → ℕ → ℕ → Bool → ℕ → Reply Yield → TimeDone
+timeYielded next defers remainder warp defer owed (refused number) = timeKept number remainder warp defer owed
+timeYielded next defers remainder warp defer owed (accepted made) =
+    record { reply = accepted (ticks (made .ticks)); remainder = made .remainder; warp = next; defer = defers || defer; owed = made .ticks }
+
+-- refusals 3, 16, 4 and 5 in this order
+abbrev pub timeAfter : ℕ → ℕ → Bool → ℕ → ℕ → ℕ → Bool → ℕ → TimeDone
+timeAfter given next defers divisor remainder warp defer owed =
+    cond (eqb divisor 0) (timeKept 3 remainder warp defer owed)
+    (cond (eqb owed 0) (timeYielded next defers remainder warp defer owed (ticksFromTime given warp remainder divisor))
+    (timeKept 16 remainder warp defer owed))
 
 -- put into the board's own fields
 abbrev pub timedOn : Board → TimeDone → Outcome
-timedOn b t = record { reply = t .reply; board = withTime b (t .remainder) (t .warp) (t .defer); events = lent }
+timedOn b t = record { reply = t .reply; board = withTime b (t .remainder) (t .warp) (t .defer) (t .owed); events = six }
 
 -- what a turn comes to on a board
 abbrev pub turned : Board → Turn → Outcome
-turned b (turn.OnChannel n w) = workedOn b n (workOn (channelAt b n) n w (b .model) (b .defer) lent)
+turned b (turn.OnChannel n w) = workedOn b n (workOn (channelAt b n) n w (b .model) (b .defer))
 turned b (turn.Elapse given next defers) =
-    timedOn b (timeAfter (b .remainder .0) (b .warp .0) (b .defer) (next .0) defers (elapsed b (given .0)))
-turned b turn.Reset = record { reply = accepted done; board = reset b; events = lent }
-turned b (turn.Say answer) = record { reply = replyOf answer; board = b; events = lent }
+    timedOn b (timeAfter (given .0) (next .0) defers (b .divisor) (b .remainder .0) (b .warp .0) (b .defer) (b .owed .0))
+turned b turn.Reset = record { reply = accepted done; board = restored b; events = six }
+turned b (turn.WorkOff stated) = inSix (workOff b stated six 0)
+turned b (turn.Say answer) = record { reply = replyOf answer; board = b; events = six }
 
 -- a turn's channel is one of the board's
 abbrev pub OnBoard : Turn → Type 0
 OnBoard (turn.OnChannel n w) = n < 3
 OnBoard (turn.Elapse given next defers) = Unit
 OnBoard turn.Reset = Unit
+OnBoard (turn.WorkOff stated) = Unit
 OnBoard (turn.Say answer) = Unit
 
 -- what the code answers for a new record's event; the new record stands, since two bytes are enough for every event
@@ -109,4 +133,5 @@ raised r new = record { reply = replyOf (r .answer); channel = new; events = r .
 
 -- .. and for the board's time
 abbrev pub timeDone : Elapsed → TimeDone
-timeDone r = record { reply = replyOf (r .answer); remainder = r .remainder .0; warp = r .warp .0; defer = r .defer }
+timeDone r =
+    record { reply = replyOf (r .answer); remainder = r .remainder .0; warp = r .warp .0; defer = r .defer; owed = r .owed .0 }

@@ -1,4 +1,5 @@
-// An operation with its port or channel found: what is refused without a look at the board is refused here.
+// An operation with its port or channel found. What is refused without a look at the board is refused here, and what is refused while ticks are owed: of the board
+// only that is asked.
 use board::Answer;
 use channel::ControlWord;
 use control::Command;
@@ -8,11 +9,12 @@ use refusal::Refusal;
 use time::SystemTicks;
 use trace::operation::Operation;
 ghost use mathlib.Core.Path.{_≡_};
+ghost use mathlib.Core.Bool.{Bool, false};
 ghost use Rattle.board.specs.declared.Board.{Board};
 ghost use Rattle.trace.specs.declared.operation.Operation.the-variants as recorded;
 ghost use Rattle.turn.specs.Made.{make};
-ghost use Rattle.turn.specs.Finding.{turnOf};
-ghost use Rattle.turn.specs.Turn.{turned, OnBoard};
+ghost use Rattle.turn.specs.Finding.{turnOf, Finds};
+ghost use Rattle.turn.specs.Turn.{owes, turned, OnBoard};
 
 // What is done to one channel.
 pub enum Work {
@@ -31,6 +33,8 @@ pub enum Turn {
     // The ticks given, the warp after them, and whether the defer flag is set.
     Elapse(SystemTicks, SystemTicks, bool),
     Reset,
+    // How many owed ticks to work off at most.
+    WorkOff(u32),
     // The board stays as it is.
     Say(Answer),
 }
@@ -41,9 +45,10 @@ fn refuse(refusal: Refusal) -> Turn
     Turn::Say(Answer::Refused(refusal))
 }
 
-// The command is opened as document 01 names it: a mode set carries its fields, a latch its channel, nothing returns early.
+// A byte to the command port where no tick is owed. The command is opened as document 01 names it: a mode set carries its fields, a latch its channel, nothing
+// returns early.
 fn command_turn(byte: u8) -> Turn
-    ensures { λ r. ⌜ (r ≡ turnOf (recorded.WritePort 0x43 byte)) × ((b : Board) → make b (recorded.WritePort 0x43 byte) ≡ turned b r) × OnBoard r ⌝ }
+    ensures { λ r. ⌜ Finds false (recorded.WritePort 0x43 byte) r ⌝ }
 {
     let command = control::command_of(byte);
     let Command::SetMode(n, word) = command else {
@@ -55,19 +60,29 @@ fn command_turn(byte: u8) -> Turn
     Turn::OnChannel(n, Work::SetMode(word))
 }
 
-fn write_turn(port: u8, byte: u8) -> Turn
-    ensures { λ r. ⌜ (r ≡ turnOf (recorded.WritePort port byte)) × ((b : Board) → make b (recorded.WritePort port byte) ≡ turned b r) × OnBoard r ⌝ }
+fn write_turn(port: u8, byte: u8, owing: bool) -> Turn
+    ensures { λ r. ⌜ Finds owing (recorded.WritePort port byte) r ⌝ }
 {
     let known = port_of(port as u16);
     match known {
-        Port::Data(n) => Turn::OnChannel(n as u8, Work::Write(byte)),
-        Port::Command => command_turn(byte),
+        Port::Data(n) => {
+            if owing {
+                return refuse(Refusal::TicksOwed);
+            }
+            Turn::OnChannel(n as u8, Work::Write(byte))
+        }
+        Port::Command => {
+            if owing {
+                return refuse(Refusal::TicksOwed);
+            }
+            command_turn(byte)
+        }
         Port::Unknown => refuse(Refusal::PortUnknown),
     }
 }
 
 fn read_turn(port: u8) -> Turn
-    ensures { λ r. ⌜ (r ≡ turnOf (recorded.ReadPort port)) × ((b : Board) → make b (recorded.ReadPort port) ≡ turned b r) × OnBoard r ⌝ }
+    ensures { λ r. ⌜ ((owing : Bool) → Finds owing (recorded.ReadPort port) r) ⌝ }
 {
     let known = port_of(port as u16);
     match known {
@@ -77,17 +92,20 @@ fn read_turn(port: u8) -> Turn
     }
 }
 
-fn gate_turn(channel: u8, level: bool) -> Turn
-    ensures { λ r. ⌜ (r ≡ turnOf (recorded.SetChannelGate channel level)) × ((b : Board) → make b (recorded.SetChannelGate channel level) ≡ turned b r) × OnBoard r ⌝ }
+fn gate_turn(channel: u8, level: bool, owing: bool) -> Turn
+    ensures { λ r. ⌜ Finds owing (recorded.SetChannelGate channel level) r ⌝ }
 {
     if 2 < channel {
         return refuse(Refusal::ChannelAbove2);
+    }
+    if owing {
+        return refuse(Refusal::TicksOwed);
     }
     Turn::OnChannel(channel, Work::SetGate(level))
 }
 
 fn counts_turn(channel: u8, number: u32) -> Turn
-    ensures { λ r. ⌜ (r ≡ turnOf (recorded.Counts channel number)) × ((b : Board) → make b (recorded.Counts channel number) ≡ turned b r) × OnBoard r ⌝ }
+    ensures { λ r. ⌜ ((owing : Bool) → Finds owing (recorded.Counts channel number) r) ⌝ }
 {
     if 2 < channel {
         return refuse(Refusal::ChannelAbove2);
@@ -99,7 +117,7 @@ fn counts_turn(channel: u8, number: u32) -> Turn
 }
 
 fn load_cycle_turn(channel: u8) -> Turn
-    ensures { λ r. ⌜ (r ≡ turnOf (recorded.LoadCycle channel)) × ((b : Board) → make b (recorded.LoadCycle channel) ≡ turned b r) × OnBoard r ⌝ }
+    ensures { λ r. ⌜ ((owing : Bool) → Finds owing (recorded.LoadCycle channel) r) ⌝ }
 {
     if 2 < channel {
         return refuse(Refusal::ChannelAbove2);
@@ -107,17 +125,28 @@ fn load_cycle_turn(channel: u8) -> Turn
     Turn::OnChannel(channel, Work::LoadCycle)
 }
 
-pub fn turn_of(operation: Operation) -> Turn
-    ensures { λ r. ⌜ (r ≡ turnOf operation) × ((b : Board) → make b operation ≡ turned b r) × OnBoard r ⌝ }
+fn reset_turn(owing: bool) -> Turn
+    ensures { λ r. ⌜ Finds owing recorded.Reset r ⌝ }
+{
+    if owing {
+        return refuse(Refusal::TicksOwed);
+    }
+    Turn::Reset
+}
+
+// For a board that owes ticks, or owes none. Reads, counts and load cycles are the same on both.
+pub fn turn_of(operation: Operation, owing: bool) -> Turn
+    ensures { λ r. ⌜ (r ≡ turnOf owing operation) × ((b : Board) → owes b ≡ owing → make b operation ≡ turned b r) × OnBoard r ⌝ }
 {
     match operation {
-        Operation::WritePort(port, byte) => write_turn(port, byte),
+        Operation::WritePort(port, byte) => write_turn(port, byte, owing),
         Operation::ReadPort(port) => read_turn(port),
-        Operation::SetChannelGate(channel, level) => gate_turn(channel, level),
+        Operation::SetChannelGate(channel, level) => gate_turn(channel, level, owing),
         Operation::Counts(channel, number) => counts_turn(channel, number),
         Operation::LoadCycle(channel) => load_cycle_turn(channel),
         Operation::CatchUp(ticks) => Turn::Elapse(ticks, ticks, true),
         Operation::Run(ticks) => Turn::Elapse(ticks, SystemTicks(0), false),
-        Operation::Reset => Turn::Reset,
+        Operation::Reset => reset_turn(owing),
+        Operation::WorkOff(stated) => Turn::WorkOff(stated),
     }
 }

@@ -11,12 +11,12 @@ use Rattle.board.specs.Outcome.{Value}
 use Rattle.board.specs.Answer.{replyOf}
 use Rattle.text.specs.Put.{put}
 use Rattle.line.proofs.Back.{line-fits, line-back}
-use Rattle.line.proofs.FirstTwo.{first-two}
+use Rattle.line.proofs.FirstSix.{first-six}
 use Rattle.runner.specs.Answers.{answerBytes}
 use Rattle.runner.proofs.say.Statement.{statement}
 use Rattle.runner.proofs.say.Tie as tie
 
--- `t6` is the array of the two event bytes
+-- `t6` is the array of the event bytes
 put-line-requires : tie.Need-put-line-requires
 put-line-requires c κs = line-fits _ _ (c .before .line-of .ensures .0)
 
@@ -24,11 +24,11 @@ returns : tie.Need-returns
 returns c =
     let line = c .before .before .before .before .line-of in
     let a = c .before .before .before .before .before .before .before .before .args in
-    let same = first-two (a .index) (replyOf (a .answer)) (a .t6) (a .left .0) in
+    let same = first-six (a .index) (replyOf (a .answer)) (a .t6) (a .left .0) in
     let said = c .before .before .put-line .ensures ∙ ap (λ (text : List ℕ). put text (now (a .out)) (a .place)) (line-back _ _ (line .ensures .0) ∙ same) in
     rw (c .before .before .before .before .before .enum-told .given .1) (said, rw⁻¹ same (line .ensures .1))
 
-answer-length : (reply : Reply Value) (events : List ℕ) (left : ℕ) → length (answerBytes reply events left) ≤ 12
+answer-length : (reply : Reply Value) (events : List ℕ) (left : ℕ) → length (answerBytes reply events left) ≤ 16
 unfolding answerBytes
 answer-length reply events left = omega arith
 
@@ -43,6 +43,10 @@ pub say-spec : {M : Type 1} → statement M
 say-spec =
     tie.close
     (tie.spec
+    (λ c. search needs)
+    (λ c. search needs)
+    (λ c. search needs)
+    (λ c. search needs)
     (λ c. search needs)
     (λ c. search needs)
     (λ c. search needs)

@@ -1,25 +1,25 @@
 -- `runner::tell` meets its contract. Assumes nothing.
 use Prim.Native.Nat.{ℕ, _+_, _-_, _≤_, _<_}
 use mathlib.Core.List.{List}
-use mathlib.Core.Path.{_≡_, sym, ap, subst, _∙_}
+use mathlib.Core.Path.{_≡_, refl, sym, ap, subst, _∙_}
 use native.Mathlib.Omega.{arith}
 use denote.Ref.{now}
 use lib.ListN.{length}
 use borrow.Author.Needs.{needs}
-use Rattle.refusal.specs.Reply.{accepted}
 use Rattle.channel.specs.declared.Channel.{Channel}
-use Rattle.latch.specs.declared.reading.ByteRead.{ByteRead}
 use Rattle.board.specs.Board.{channelAt}
-use Rattle.board.specs.Outcome.{Outcome, done}
-use Rattle.board.specs.Making.{reset}
+use Rattle.board.specs.Outcome.{Outcome}
+use Rattle.board.specs.Making.{restored}
+use Rattle.board.specs.Answer.{replyOf}
 use Rattle.text.specs.Put.{put, answered}
 use Rattle.trace.specs.Trace.{operationsFrom}
 use Rattle.trace.specs.Answer.{operationsOf}
 use Rattle.trace.proofs.Found.{in-sound}
-use Rattle.turn.specs.Asked.{lent}
+use Rattle.turn.specs.Made.{inSix}
 use Rattle.turn.specs.declared.finding.Work.{Work}
 use Rattle.turn.specs.declared.finding.Turn.the-variants.{OnChannel}
-use Rattle.turn.specs.Turn.{WorkDone, changed, readDone, workOn, workedOn, timedOn, turned, OnBoard}
+use Rattle.turn.specs.Turn.{WorkDone, changed, readDone, quiet, workOn, workedOn, timedOn, turned, OnBoard}
+use Rattle.turn.proofs.Padded.{six-padded}
 use Rattle.turn.proofs.Room.{latch-quiet}
 use Rattle.runner.specs.Printed.{roomOf, saidOf}
 use Rattle.runner.proofs.Turns.{Running, begun, goes-on, ended}
@@ -40,10 +40,10 @@ abbrev Turned : Type 0
 Turned = tie.After-turn-of Inv-loop μ-loop
 
 abbrev start : (t : Turned) → tie.Start Inv-loop μ-loop
-start t = t .before .before .before .before .before .before
+start t = t .before .before .before .before .before .before .before .before
 
 abbrev turn : (t : Turned) → tie.At-loop Inv-loop μ-loop
-turn t = t .before .before .before
+turn t = t .before .before .before .before .before
 
 -- the turn's outcome, and what is said of it, carry the loop on
 next : (t : Turned) (outcome : Outcome) → turned (turn t .loop .b) (t .turn-of .result) ≡ outcome → (at₁ : ℕ) (out₁ : List ℕ)
@@ -53,13 +53,13 @@ next : (t : Turned) (outcome : Outcome) → turned (turn t .loop .b) (t .turn-of
 next t outcome comes at₁ out₁ said =
     let a = start t .args in
     let l = turn t .loop in
-    let h = t .before .before .loop-test .taken in (
+    let h = t .before .before .before .before .loop-test .taken in (
       omega (arith, h),
       goes-on (a .form) (now (a .trace)) (a .first) (a .number) (start t .pre .0) (a .start) (now (a .out)) (a .place) (l .b) (l .at) (l .j) (l .out) (l .inv .1) h
-          (t .before .operation-in .result)
-          (λ p e. t .before .operation-in .ensures ∙ in-sound (now (a .trace)) (a .first + l .j) p e)
+          (t .before .before .before .operation-in .result)
+          (λ p e. t .before .before .before .operation-in .ensures ∙ in-sound (now (a .trace)) (a .first + l .j) p e)
           outcome
-          (t .turn-of .ensures .1 (l .b) ∙ comes)
+          (t .turn-of .ensures .1 (l .b) refl ∙ comes)
           at₁
           out₁
           (said .0)
@@ -67,14 +67,14 @@ next t outcome comes at₁ out₁ said =
     )
 
 less : (t : Turned) → start t .args .number - (turn t .loop .j + 1) < start t .args .number - turn t .loop .j
-less t = omega (arith, t .before .before .loop-test .taken)
+less t = omega (arith, t .before .before .before .before .loop-test .taken)
 
 on-board : (c : tie.After-known-told Inv-loop μ-loop) → c .before .turn .given .0 .0 < 3
 on-board c = subst OnBoard (c .before .turn .given .1) (c .before .before .before .turn-of .ensures .2)
 
 -- work on a channel, and what it comes to
 worked : (t : Turned) (n : ℕ) (w : Work) → t .turn-of .result ≡ OnChannel n w → (v : Work) → w ≡ v → (made : WorkDone)
-    → workOn (channelAt (turn t .loop .b) n) n v (turn t .loop .b .model) (turn t .loop .b .defer) lent ≡ made
+    → workOn (channelAt (turn t .loop .b) n) n v (turn t .loop .b .model) (turn t .loop .b .defer) ≡ made
     → turned (turn t .loop .b) (t .turn-of .result) ≡ workedOn (turn t .loop .b) n made
 worked t n w is v same made comes =
     let b = turn t .loop .b in
@@ -84,7 +84,7 @@ worked t n w is v same made comes =
 loop-again : tie.Need-loop-again Inv-loop μ-loop
 loop-again c =
     let t = c .before .before .before .before .before .before .before .before .before .before .before .before .before .before .before in
-    next t _ (worked t _ _ (c .before .before .before .before .before .before .before .before .before .before .before .before .before .turn .given .1) _ (c .before .before .before .before .before .before .before .before .before .before .work .given .1) _ (ap (λ (d : Channel). changed (c .before .before .before .before .before .before .before .before .before .before .before .before .before .turn .given .0 .0) (channelAt (turn t .loop .b) (c .before .before .before .before .before .before .before .before .before .before .before .before .before .turn .given .0 .0)) d lent) (sym (c .before .before .before .before .before .before .before .write-byte .ensures)) ∙ c .before .before .before .before .before .before .raise .ensures)) _ _ (c .before .before .say .ensures)
+    next t _ (worked t _ _ (c .before .before .before .before .before .before .before .before .before .before .before .before .before .turn .given .1) _ (c .before .before .before .before .before .before .before .before .before .before .work .given .1) _ (ap (λ (d : Channel). changed (c .before .before .before .before .before .before .before .before .before .before .before .before .before .turn .given .0 .0) (channelAt (turn t .loop .b) (c .before .before .before .before .before .before .before .before .before .before .before .before .before .turn .given .0 .0)) d) (sym (c .before .before .before .before .before .before .before .write-byte .ensures)) ∙ c .before .before .before .before .before .before .raise .ensures)) _ _ (c .before .before .say .ensures)
 
 -- a latch raises no event
 loop-again-2 : tie.Need-loop-again-2 Inv-loop μ-loop
@@ -96,53 +96,64 @@ loop-again-2 c =
 loop-again-3 : tie.Need-loop-again-3 Inv-loop μ-loop
 loop-again-3 c =
     let t = c .before .before .before .before .before .before .before .before .before .before .before .before .before .before .before in
-    next t _ (worked t _ _ (c .before .before .before .before .before .before .before .before .before .before .before .before .before .turn .given .1) _ (c .before .before .before .before .before .before .before .before .before .before .work2 .given .1) _ (ap (λ (d : Channel). changed (c .before .before .before .before .before .before .before .before .before .before .before .before .before .turn .given .0 .0) (channelAt (turn t .loop .b) (c .before .before .before .before .before .before .before .before .before .before .before .before .before .turn .given .0 .0)) d lent) (sym (c .before .before .before .before .before .before .before .set-mode .ensures)) ∙ c .before .before .before .before .before .before .raise2 .ensures)) _ _ (c .before .before .say3 .ensures)
+    next t _ (worked t _ _ (c .before .before .before .before .before .before .before .before .before .before .before .before .before .turn .given .1) _ (c .before .before .before .before .before .before .before .before .before .before .work2 .given .1) _ (ap (λ (d : Channel). changed (c .before .before .before .before .before .before .before .before .before .before .before .before .before .turn .given .0 .0) (channelAt (turn t .loop .b) (c .before .before .before .before .before .before .before .before .before .before .before .before .before .turn .given .0 .0)) d) (sym (c .before .before .before .before .before .before .before .set-mode .ensures)) ∙ c .before .before .before .before .before .before .raise2 .ensures)) _ _ (c .before .before .say3 .ensures)
 
 -- a level at a gate
 loop-again-4 : tie.Need-loop-again-4 Inv-loop μ-loop
 loop-again-4 c =
     let t = c .before .before .before .before .before .before .before .before .before .before .before .before .before .before .before in
-    next t _ (worked t _ _ (c .before .before .before .before .before .before .before .before .before .before .before .before .before .turn .given .1) _ (c .before .before .before .before .before .before .before .before .before .before .work3 .given .1) _ (ap (λ (d : Channel). changed (c .before .before .before .before .before .before .before .before .before .before .before .before .before .turn .given .0 .0) (channelAt (turn t .loop .b) (c .before .before .before .before .before .before .before .before .before .before .before .before .before .turn .given .0 .0)) d lent) (sym (c .before .before .before .before .before .before .before .set-gate .ensures)) ∙ c .before .before .before .before .before .before .raise3 .ensures)) _ _ (c .before .before .say4 .ensures)
+    next t _ (worked t _ _ (c .before .before .before .before .before .before .before .before .before .before .before .before .before .turn .given .1) _ (c .before .before .before .before .before .before .before .before .before .before .work3 .given .1) _ (ap (λ (d : Channel). changed (c .before .before .before .before .before .before .before .before .before .before .before .before .before .turn .given .0 .0) (channelAt (turn t .loop .b) (c .before .before .before .before .before .before .before .before .before .before .before .before .before .turn .given .0 .0)) d) (sym (c .before .before .before .before .before .before .before .set-gate .ensures)) ∙ c .before .before .before .before .before .before .raise3 .ensures)) _ _ (c .before .before .say4 .ensures)
 
 -- a read
 loop-again-5 : tie.Need-loop-again-5 Inv-loop μ-loop
 loop-again-5 c =
     let t = c .before .before .before .before .before .before .before .before .before .before .before .before .before in
-    next t _ (worked t _ _ (c .before .before .before .before .before .before .before .before .before .before .before .turn .given .1) _ (c .before .before .before .before .before .before .before .before .enum-told2 .given .1) _ (ap (λ (r : ByteRead). readDone r lent) (sym (c .before .before .before .before .before .before .read-byte .ensures)))) _ _ (c .before .before .say5 .ensures)
+    next t _ (worked t _ _ (c .before .before .before .before .before .before .before .before .before .before .before .turn .given .1) _ (c .before .before .before .before .before .before .before .before .enum-told2 .given .1) _ (ap readDone (sym (c .before .before .before .before .before .before .read-byte .ensures)))) _ _ (c .before .before .say5 .ensures)
 
 -- counts
 loop-again-6 : tie.Need-loop-again-6 Inv-loop μ-loop
 loop-again-6 c =
     let t = c .before .before .before .before .before .before .before .before .before .before .before .before .before in
-    next t _ (worked t _ _ (c .before .before .before .before .before .before .before .before .before .before .before .turn .given .1) _ (c .before .before .before .before .before .before .before .before .work4 .given .1) _ (ap (λ (d : Channel). record { reply = accepted done; channel = d; events = lent }) (sym (c .before .before .before .before .before .counts .ensures)))) _ _ (c .before .before .say6 .ensures)
+    next t _ (worked t _ _ (c .before .before .before .before .before .before .before .before .before .before .before .turn .given .1) _ (c .before .before .before .before .before .before .before .before .work4 .given .1) _ (ap quiet (sym (c .before .before .before .before .before .counts .ensures)))) _ _ (c .before .before .say6 .ensures)
 
 -- a load cycle
 loop-again-7 : tie.Need-loop-again-7 Inv-loop μ-loop
 loop-again-7 c =
     let t = c .before .before .before .before .before .before .before .before .before .before .before .before in
-    next t _ (worked t _ _ (c .before .before .before .before .before .before .before .before .before .before .turn .given .1) _ (c .before .before .before .before .before .before .before .enum-told3 .given .1) _ (ap (λ (d : Channel). record { reply = accepted done; channel = d; events = lent }) (sym (c .before .before .before .before .before .load-cycle .ensures)))) _ _ (c .before .before .say7 .ensures)
+    next t _ (worked t _ _ (c .before .before .before .before .before .before .before .before .before .before .turn .given .1) _ (c .before .before .before .before .before .before .before .enum-told3 .given .1) _ (ap quiet (sym (c .before .before .before .before .before .load-cycle .ensures)))) _ _ (c .before .before .say7 .ensures)
 
 -- a catch-up or a run
 loop-again-8 : tie.Need-loop-again-8 Inv-loop μ-loop
 loop-again-8 c =
-    let t = c .before .before .before .before .before .before .before .before .before .before .before .before in
+    let t = c .before .before .before .before .before .before .before .before .before .before .before .before .before in
     let b = turn t .loop .b in
-    next t _ (ap (turned b) (c .before .before .before .before .before .before .before .before .before .before .turn2 .given .1) ∙ ap (timedOn b) (sym (c .before .before .before .before .before .before .elapse .ensures))) _ _ (c .before .before .say8 .ensures)
+    next t _ (ap (turned b) (c .before .before .before .before .before .before .before .before .before .before .before .turn2 .given .1) ∙ ap (timedOn b) (sym (c .before .before .before .before .before .before .before .elapse .ensures))) _ _ (c .before .before .say8 .ensures)
 
 -- a reset
 loop-again-9 : tie.Need-loop-again-9 Inv-loop μ-loop
-unfolding reset
+unfolding restored
 loop-again-9 c =
     let t = c .before .before .before .before .before .before .before .before .before .before .before .before .before in
     let b = turn t .loop .b in
     next t _ (ap (turned b) (c .before .before .before .before .before .before .before .before .before .before .before .enum-told4 .given .1) ∙ simp (c .before .before .before .before .before .before .before .reset .ensures, c .before .before .before .before .before .before .reset2 .ensures, c .before .before .before .before .before .reset3 .ensures)) _ _ (c .before .before .say9 .ensures)
 
--- what leaves the board as it is
+-- ticks worked off: all six lent bytes are told
 loop-again-10 : tie.Need-loop-again-10 Inv-loop μ-loop
 loop-again-10 c =
+    let t = c .before .before .before .before .before .before .before .before .before .before .before .before in
+    let b = turn t .loop .b in
+    let made = c .before .before .before .before .before .before .before .work-off in
+    let lent = made .last .1 .1 .0 in
+    let long : length lent ≡ 6 = search needs in
+    let told = ap {B = Outcome} (λ (events : List ℕ). record { reply = replyOf (made .result .answer); board = made .result .board; events = events }) (six-padded lent long) in
+    next t _ (ap (turned b) (c .before .before .before .before .before .before .before .before .before .before .turn3 .given .1) ∙ ap inSix (sym (made .ensures)) ∙ told) _ _ (c .before .before .say10 .ensures)
+
+-- what leaves the board as it is
+loop-again-11 : tie.Need-loop-again-11 Inv-loop μ-loop
+loop-again-11 c =
     let t = c .before .before .before .before .before .before .before .before in
     let b = turn t .loop .b in
-    next t _ (ap (turned b) (c .before .before .before .before .before .before .turn3 .given .1)) _ _ (c .before .before .say10 .ensures)
+    next t _ (ap (turned b) (c .before .before .before .before .before .before .turn4 .given .1)) _ _ (c .before .before .say11 .ensures)
 
 returns : tie.Need-returns Inv-loop μ-loop
 returns c =
@@ -234,7 +245,7 @@ tell-spec =
     (λ c. search needs)
     (λ c κs. search needs)
     (λ c κs. search needs)
-    (λ c. less (c .before .before .before .before .before .before .before .before .before .before .before .before))
+    (λ c. less (c .before .before .before .before .before .before .before .before .before .before .before .before .before))
     loop-again-8
     (λ c. search needs)
     (λ c. search needs)
@@ -247,8 +258,14 @@ tell-spec =
     (λ c. less (c .before .before .before .before .before .before .before .before .before .before .before .before .before))
     loop-again-9
     (λ c. search needs)
+    (λ c. search needs)
+    (λ c κs. search needs)
+    (λ c κs. search needs)
+    (λ c. less (c .before .before .before .before .before .before .before .before .before .before .before .before))
+    loop-again-10
+    (λ c. search needs)
     (λ c κs. search needs)
     (λ c. less (c .before .before .before .before .before .before .before .before))
-    loop-again-10
+    loop-again-11
     (λ c. c .before .loop .inv .1 .same-length)
     returns)

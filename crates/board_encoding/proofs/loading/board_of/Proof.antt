@@ -10,7 +10,7 @@ cast-numbered c = omega (arith, c .shared-slice-known2 .given 87)
 
 returns : tie.Need-returns
 unfolding boardOf
-returns c = simp (c .before .number-at3 .ensures, c .before .before .number-at2 .ensures, c .before .before .before .number-at .ensures, c .before .before .before .before .numbered .ensures)
+returns c = simp (c .before .number-at4 .ensures, c .before .before .number-at3 .ensures, c .before .before .before .number-at2 .ensures, c .before .before .before .before .number-at .ensures, c .before .before .before .before .before .numbered .ensures)
 
 pub board-of-spec : {M : Type 1} → statement M
 board-of-spec =
@@ -18,6 +18,7 @@ board-of-spec =
     (tie.spec
     (λ c. search needs)
     cast-numbered
+    (λ c κs. search needs)
     (λ c κs. search needs)
     (λ c κs. search needs)
     (λ c κs. search needs)

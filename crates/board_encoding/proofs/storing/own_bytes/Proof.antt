@@ -4,7 +4,7 @@ use Rattle.board_encoding.proofs.storing.own_bytes.Statement.{statement
 use Rattle.board_encoding.proofs.storing.own_bytes.Tie as tie
 
 returns : tie.Need-returns
-returns c = simp (c .flag-byte .ensures, c .before .number .ensures, c .before .before .four-bytes3 .ensures, c .before .before .before .four-bytes2 .ensures, c .before .before .before .before .four-bytes .ensures)
+returns c = simp (c .flag-byte .ensures, c .before .number .ensures, c .before .before .four-bytes4 .ensures, c .before .before .before .four-bytes3 .ensures, c .before .before .before .before .four-bytes2 .ensures, c .before .before .before .before .before .four-bytes .ensures)
 
 pub own-bytes-spec : {M : Type 1} → statement M
 own-bytes-spec =
@@ -14,6 +14,7 @@ own-bytes-spec =
     (λ c κs. search needs)
     (λ c κs. search needs)
     (λ c κs. search needs)
+    (λ c κs. search needs)
     (λ c. search needs)
     (λ c. search needs)
     (λ c. search needs)
@@ -27,4 +28,8 @@ own-bytes-spec =
     (λ c. search needs)
     (λ c. search needs)
     (λ c κs. search needs)
+    (λ c. search needs)
+    (λ c. search needs)
+    (λ c. search needs)
+    (λ c. search needs)
     returns)

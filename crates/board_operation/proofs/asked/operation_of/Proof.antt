@@ -27,7 +27,11 @@ returns-5 c = simp (c .zero-or2 .ensures, eq-eqb _ _ (c .before .if5 .taken), ne
 
 returns-6 : tie.Need-returns-6
 unfolding operationOf
-returns-6 c = simp (c .zero-or3 .ensures, c .before .bare-asked .ensures, ne-eqb _ _ (c .before .before .if5 .left), ne-eqb _ _ (c .before .before .before .if4 .left), ne-eqb _ _ (c .before .before .before .before .if3 .left), ne-eqb _ _ (c .before .before .before .before .before .if2 .left), ne-eqb _ _ (c .before .before .before .before .before .before .if1 .left))
+returns-6 c = simp (c .zero-or3 .ensures, eq-eqb _ _ (c .before .if6 .taken), ne-eqb _ _ (c .before .before .if5 .left), ne-eqb _ _ (c .before .before .before .if4 .left), ne-eqb _ _ (c .before .before .before .before .if3 .left), ne-eqb _ _ (c .before .before .before .before .before .if2 .left), ne-eqb _ _ (c .before .before .before .before .before .before .if1 .left))
+
+returns-7 : tie.Need-returns-7
+unfolding operationOf
+returns-7 c = simp (c .zero-or4 .ensures, c .before .bare-asked .ensures, ne-eqb _ _ (c .before .before .if6 .left), ne-eqb _ _ (c .before .before .before .if5 .left), ne-eqb _ _ (c .before .before .before .before .if4 .left), ne-eqb _ _ (c .before .before .before .before .before .if3 .left), ne-eqb _ _ (c .before .before .before .before .before .before .if2 .left), ne-eqb _ _ (c .before .before .before .before .before .before .before .if1 .left))
 
 pub operation-of-spec : {M : Type 1} → statement M
 operation-of-spec =
@@ -43,5 +47,7 @@ operation-of-spec =
     (λ c κs. search needs)
     returns-5
     (λ c κs. search needs)
+    returns-6
     (λ c κs. search needs)
-    returns-6)
+    (λ c κs. search needs)
+    returns-7)

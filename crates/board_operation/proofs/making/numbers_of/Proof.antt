@@ -30,6 +30,9 @@ returns-8 c = simp (c .saying7 .ensures, c .before .as-number3 .ensures, c .befo
 returns-9 : tie.Need-returns-9
 returns-9 c = simp (c .saying8 .ensures, c .before .as-number6 .ensures, c .before .before .as-number5 .ensures, c .before .before .before .as-number4 .ensures, c .before .before .before .before .before .answer8 .given .1)
 
+returns-10 : tie.Need-returns-10
+returns-10 c = simp (c .saying9 .ensures, c .before .before .before .answer9 .given .1)
+
 pub numbers-of-spec : {M : Type 1} → statement M
 numbers-of-spec =
     tie.close
@@ -65,6 +68,8 @@ numbers-of-spec =
     (λ c κs. search needs)
     (λ c κs. search needs)
     (λ c κs. search needs)
+    (λ c. search needs)
+    (λ c κs. search needs)
     returns
     returns-2
     returns-3
@@ -73,4 +78,5 @@ numbers-of-spec =
     returns-6
     returns-7
     returns-8
-    returns-9)
+    returns-9
+    returns-10)

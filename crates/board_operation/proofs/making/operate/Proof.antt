@@ -35,7 +35,7 @@ returns-7 c = simp (c .answered7 .ensures, c .before .before .before .operation7
 
 returns-8 : tie.Need-returns-8
 unfolding operate
-returns-8 c = simp (c .reset .ensures, c .before .enum-told .given .1)
+returns-8 c = simp (c .answered8 .ensures, c .before .before .enum-told .given .1, sym (c .before .reset .ensures))
 
 returns-9 : tie.Need-returns-9
 unfolding operate
@@ -51,11 +51,15 @@ returns-11 c = simp (c .told3 .ensures, c .before .before .before .operation10 .
 
 returns-12 : tie.Need-returns-12
 unfolding operate
-returns-12 c = simp (c .answered8 .ensures, c .before .before .before .operation11 .given .1, sym (c .before .is-dirty .ensures))
+returns-12 c = simp (c .answered9 .ensures, c .before .before .before .operation11 .given .1, sym (c .before .is-dirty .ensures))
 
 returns-13 : tie.Need-returns-13
 unfolding operate
 returns-13 c = simp (c .timer-accum .ensures, c .before .enum-told2 .given .1)
+
+returns-14 : tie.Need-returns-14
+unfolding operate
+returns-14 c = simp (c .answered10 .ensures, c .before .before .before .before .before .before .operation12 .given .1, sym (c .before .before .before .work-off .ensures))
 
 pub operate-spec : {M : Type 1} → statement M
 operate-spec =
@@ -87,9 +91,6 @@ operate-spec =
     (λ c κs. search needs)
     (λ c. search needs)
     (λ c κs. search needs)
-    (λ c. search needs)
-    (λ c. search needs)
-    (λ c κs. search needs)
     (λ c κs. search needs)
     (λ c. search needs)
     (λ c. search needs)
@@ -104,6 +105,13 @@ operate-spec =
     (λ c κs. search needs)
     (λ c κs. search needs)
     (λ c. search needs)
+    (λ c. search needs)
+    (λ c κs. search needs)
+    (λ c κs. search needs)
+    (λ c. search needs)
+    (λ c κs. search needs)
+    (λ c. search needs)
+    (λ c κs. search needs)
     (λ c κs. search needs)
     (λ c. search needs)
     returns
@@ -119,4 +127,6 @@ operate-spec =
     returns-10
     returns-11
     returns-12
-    returns-13)
+    returns-13
+    (λ c. search needs)
+    returns-14)

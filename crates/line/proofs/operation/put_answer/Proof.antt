@@ -29,19 +29,22 @@ returns-5 c =
     rw text (c .before .before .put-out .ensures)
 
 returns-6 : tie.Need-returns-6
-returns-6 c = simp (c .before .before .before .before .enum-told .given .1) (c .before .before .put-ok2 .ensures)
+returns-6 c = simp (c .before .before .before .before .before .answer5 .given .1) (c .before .before .put-made .ensures)
 
 returns-7 : tie.Need-returns-7
-returns-7 c = simp (c .before .before .before .before .enum-told2 .given .1) (c .before .before .put-ok3 .ensures)
+returns-7 c = simp (c .before .before .before .before .enum-told .given .1) (c .before .before .put-ok2 .ensures)
 
 returns-8 : tie.Need-returns-8
-returns-8 c = simp (c .before .before .before .before .enum-told3 .given .1) (c .before .before .put-ok4 .ensures)
+returns-8 c = simp (c .before .before .before .before .enum-told2 .given .1) (c .before .before .put-ok3 .ensures)
 
 returns-9 : tie.Need-returns-9
-returns-9 c = simp (c .before .before .before .before .enum-told4 .given .1) (c .before .before .put-ok5 .ensures)
+returns-9 c = simp (c .before .before .before .before .enum-told3 .given .1) (c .before .before .put-ok4 .ensures)
 
 returns-10 : tie.Need-returns-10
-returns-10 c = simp (c .before .before .before .before .enum-told5 .given .1) (c .before .before .put-ok6 .ensures)
+returns-10 c = simp (c .before .before .before .before .enum-told4 .given .1) (c .before .before .put-ok5 .ensures)
+
+returns-11 : tie.Need-returns-11
+returns-11 c = simp (c .before .before .before .before .enum-told5 .given .1) (c .before .before .put-ok6 .ensures)
 
 pub put-answer-spec : {M : Type 1} → statement M
 put-answer-spec =
@@ -70,6 +73,8 @@ put-answer-spec =
     (λ c. search needs)
     (λ c κs. search needs)
     (λ c. search needs)
+    (λ c κs. search needs)
+    (λ c. search needs)
     returns-2
     (λ c. search needs)
     returns-3
@@ -86,4 +91,6 @@ put-answer-spec =
     (λ c. search needs)
     returns-9
     (λ c. search needs)
-    returns-10)
+    returns-10
+    (λ c. search needs)
+    returns-11)

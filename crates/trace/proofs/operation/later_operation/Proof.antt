@@ -3,8 +3,11 @@ use Rattle.trace.proofs.Codes.{last-code}
 use Rattle.trace.proofs.operation.later_operation.Statement.{statement}
 use Rattle.trace.proofs.operation.later_operation.Tie as tie
 
-returns-4 : tie.Need-returns-4
-returns-4 c = let a = c .before .args in let rest = c .match .rest in last-code (a .code) (a .target) (a .number) (c .before .pre) (rest .0 .0 .1) (rest .0 .1) (rest .1)
+returns-5 : tie.Need-returns-5
+returns-5 c =
+    let a = c .before .args in
+    let rest = c .match .rest in
+    last-code (a .code) (a .target) (a .number) (c .before .pre) (rest .0 .0 .0 .1) (rest .0 .0 .1) (rest .0 .1) (rest .1)
 
 pub later-operation-spec : {M : Type 1} → statement M
 later-operation-spec =
@@ -13,4 +16,5 @@ later-operation-spec =
     (λ c. simp (c .match .keys1))
     (λ c. simp (c .match .keys2))
     (λ c. simp (c .match .keys3))
-    returns-4)
+    (λ c. simp (c .match .keys4))
+    returns-5)

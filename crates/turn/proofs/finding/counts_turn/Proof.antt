@@ -5,13 +5,13 @@ use Rattle.turn.proofs.finding.counts_turn.Statement.{statement}
 use Rattle.turn.proofs.finding.counts_turn.Tie as tie
 
 returns : tie.Need-returns
-returns c = rw (c .refuse .ensures) (counts-above _ (c .before .if1 .taken) _)
+returns c owing = rw (c .refuse .ensures) (counts-above _ (c .before .if1 .taken) _ owing)
 
 returns-2 : tie.Need-returns-2
-returns-2 c = rw (c .refuse2 .ensures) (too-many _ (c .before .before .if1 .left) _ (c .before .if2 .taken))
+returns-2 c owing = rw (c .refuse2 .ensures) (too-many _ (c .before .before .if1 .left) _ (c .before .if2 .taken) owing)
 
 returns-3 : tie.Need-returns-3
-returns-3 c = counts-turn _ (c .before .if1 .left) _ (c .if2 .left)
+returns-3 c owing = counts-turn _ (c .before .if1 .left) _ (c .if2 .left) owing
 
 pub counts-turn-spec : {M : Type 1} → statement M
 counts-turn-spec =

@@ -11,13 +11,13 @@ cast-t6 : tie.Need-cast-t6
 cast-t6 c = omega (arith, data-below _ _ (sym (c .before .before .before .port-of .ensures) ∙ c .before .known .given .1))
 
 returns : tie.Need-returns
-returns c = data-read _ _ (sym (c .before .before .before .port-of .ensures) ∙ c .before .known .given .1)
+returns c owing = data-read _ _ (sym (c .before .before .before .port-of .ensures) ∙ c .before .known .given .1) owing
 
 returns-2 : tie.Need-returns-2
-returns-2 c = command-read _ (sym (c .before .before .port-of .ensures) ∙ c .enum-told .given .1)
+returns-2 c owing = command-read _ (sym (c .before .before .port-of .ensures) ∙ c .enum-told .given .1) owing
 
 returns-3 : tie.Need-returns-3
-returns-3 c = rw (c .refuse .ensures) (unknown-read _ (sym (c .before .before .before .port-of .ensures) ∙ c .before .enum-told2 .given .1))
+returns-3 c owing = rw (c .refuse .ensures) (unknown-read _ (sym (c .before .before .before .port-of .ensures) ∙ c .before .enum-told2 .given .1) owing)
 
 pub read-turn-spec : {M : Type 1} → statement M
 read-turn-spec =

@@ -1,13 +1,16 @@
 -- `turn::making::make` meets its contract. Assumes nothing.
-use mathlib.Core.Path.{sym}
+use mathlib.Core.Path.{_≡_, sym}
+use lib.ListN.{length}
 use borrow.Author.Needs.{needs}
 use Rattle.turn.specs.Made.{make}
+use Rattle.turn.proofs.Padded.{six-padded}
 use Rattle.turn.proofs.making.make.Statement.{statement}
 use Rattle.turn.proofs.making.make.Tie as tie
 
 returns : tie.Need-returns
 unfolding make
-returns c = simp (c .with-events .ensures, c .before .before .before .before .before .operation .given .1) (c .before .before .write-port .ensures)
+returns c =
+    simp (c .with-events .ensures, c .before .padded .ensures, c .before .before .before .before .before .before .operation .given .1, sym (c .before .before .before .write-port .ensures))
 
 returns-2 : tie.Need-returns-2
 unfolding make
@@ -15,7 +18,8 @@ returns-2 c = simp (c .with-events2 .ensures, c .before .before .before .operati
 
 returns-3 : tie.Need-returns-3
 unfolding make
-returns-3 c = simp (c .with-events3 .ensures, c .before .before .before .before .before .operation3 .given .1) (c .before .before .set-channel-gate .ensures)
+returns-3 c =
+    simp (c .with-events3 .ensures, c .before .padded2 .ensures, c .before .before .before .before .before .before .operation3 .given .1, sym (c .before .before .before .set-channel-gate .ensures))
 
 returns-4 : tie.Need-returns-4
 unfolding make
@@ -35,7 +39,14 @@ returns-7 c = simp (c .with-events7 .ensures, c .before .before .before .operati
 
 returns-8 : tie.Need-returns-8
 unfolding make
-returns-8 c = simp (c .reset .ensures, c .before .enum-told .given .1)
+returns-8 c = simp (c .with-events8 .ensures, c .before .before .enum-told .given .1, sym (c .before .reset .ensures))
+
+returns-9 : tie.Need-returns-9
+unfolding make
+returns-9 c =
+    let lent = c .before .before .work-off .last .1 .1 .0 in
+    let long : length lent ≡ 6 = search needs in
+    simp (c .with-events9 .ensures, c .before .before .before .before .before .operation8 .given .1, sym (c .before .before .work-off .ensures), six-padded lent long)
 
 pub make-spec : {M : Type 1} → statement M
 make-spec =
@@ -46,14 +57,6 @@ make-spec =
     (λ c. search needs)
     (λ c κs. search needs)
     (λ c κs. search needs)
-    (λ c. search needs)
-    (λ c. search needs)
-    (λ c κs. search needs)
-    (λ c κs. search needs)
-    (λ c. search needs)
-    (λ c. search needs)
-    (λ c. search needs)
-    (λ c κs. search needs)
     (λ c κs. search needs)
     (λ c. search needs)
     (λ c. search needs)
@@ -61,8 +64,15 @@ make-spec =
     (λ c κs. search needs)
     (λ c. search needs)
     (λ c. search needs)
+    (λ c. search needs)
     (λ c κs. search needs)
     (λ c κs. search needs)
+    (λ c κs. search needs)
+    (λ c. search needs)
+    (λ c. search needs)
+    (λ c κs. search needs)
+    (λ c κs. search needs)
+    (λ c. search needs)
     (λ c. search needs)
     (λ c κs. search needs)
     (λ c κs. search needs)
@@ -70,6 +80,14 @@ make-spec =
     (λ c κs. search needs)
     (λ c κs. search needs)
     (λ c. search needs)
+    (λ c κs. search needs)
+    (λ c κs. search needs)
+    (λ c. search needs)
+    (λ c κs. search needs)
+    (λ c κs. search needs)
+    (λ c. search needs)
+    (λ c. search needs)
+    (λ c κs. search needs)
     (λ c κs. search needs)
     returns
     returns-2
@@ -78,4 +96,5 @@ make-spec =
     returns-5
     returns-6
     returns-7
-    returns-8)
+    returns-8
+    returns-9)
