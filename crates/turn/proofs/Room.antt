@@ -19,7 +19,7 @@ enough Unchanged k e = not-refused 0 k e
 enough (Level channel level) k e = not-refused 2 k e
 
 -- a latch leaves the output as it is, so it raises no event
-pub latch-quiet : (n : ℕ) (c next : Channel) → next ≡ latchCount c
+pub latch-unheard : (n : ℕ) (c next : Channel) → next ≡ latchCount c
     → changed n c (latchCount c) ≡ record { reply = accepted (newPlace 0); channel = next; events = six }
 unfolding latchCount placeEvent
-latch-quiet n c next is = rw is (simp (standing-level n (c .pins .output)))
+latch-unheard n c next is = rw is (simp (standing-level n (c .pins .output)))

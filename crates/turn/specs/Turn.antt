@@ -63,8 +63,8 @@ abbrev pub readDone : ByteRead → WorkDone
 readDone r = record { reply = accepted (byte (r .byte)); channel = r .channel; events = six }
 
 -- a new record of a channel of which nothing more is told
-abbrev pub quiet : Channel → WorkDone
-quiet new = record { reply = accepted done; channel = new; events = six }
+abbrev pub unheard : Channel → WorkDone
+unheard new = record { reply = accepted done; channel = new; events = six }
 
 -- the work on the record of channel n, with the board's model and defer flag
 abbrev pub workOn : Channel → ℕ → Work → PitType → Bool → WorkDone
@@ -73,8 +73,8 @@ workOn c n work.Latch model defer = changed n c (latchCount c)
 workOn c n (work.SetMode word) model defer = changed n c (setMode c word model)
 workOn c n (work.SetGate level) model defer = changed n c (setGate c level)
 workOn c n work.Read model defer = readDone (readByte c)
-workOn c n (work.Counts number) model defer = quiet (times number count c)
-workOn c n work.LoadCycle model defer = quiet (loadCycle c)
+workOn c n (work.Counts number) model defer = unheard (times number count c)
+workOn c n work.LoadCycle model defer = unheard (loadCycle c)
 
 -- the work on its channel, put back at its place
 abbrev pub workedOn : Board → ℕ → WorkDone → Outcome

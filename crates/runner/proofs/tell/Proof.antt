@@ -18,9 +18,9 @@ use Rattle.trace.proofs.Found.{in-sound}
 use Rattle.turn.specs.Made.{inSix}
 use Rattle.turn.specs.declared.finding.Work.{Work}
 use Rattle.turn.specs.declared.finding.Turn.the-variants.{OnChannel}
-use Rattle.turn.specs.Turn.{WorkDone, changed, readDone, quiet, workOn, workedOn, timedOn, turned, OnBoard}
+use Rattle.turn.specs.Turn.{WorkDone, changed, readDone, unheard, workOn, workedOn, timedOn, turned, OnBoard}
 use Rattle.turn.proofs.Padded.{six-padded}
-use Rattle.turn.proofs.Room.{latch-quiet}
+use Rattle.turn.proofs.Room.{latch-unheard}
 use Rattle.runner.specs.Printed.{roomOf, saidOf}
 use Rattle.runner.proofs.Turns.{Running, begun, goes-on, ended}
 use Rattle.runner.proofs.tell.Statement.{statement}
@@ -90,7 +90,7 @@ loop-again c =
 loop-again-2 : tie.Need-loop-again-2 Inv-loop μ-loop
 loop-again-2 c =
     let t = c .before .before .before .before .before .before .before .before .before .before .before .before in
-    next t _ (worked t _ _ (c .before .before .before .before .before .before .before .before .before .before .turn .given .1) _ (c .before .before .before .before .before .before .before .enum-told .given .1) _ (latch-quiet (c .before .before .before .before .before .before .before .before .before .before .turn .given .0 .0) (channelAt (turn t .loop .b) (c .before .before .before .before .before .before .before .before .before .before .turn .given .0 .0)) _ (c .before .before .before .before .before .latch-count .ensures))) _ _ (c .before .before .say2 .ensures)
+    next t _ (worked t _ _ (c .before .before .before .before .before .before .before .before .before .before .turn .given .1) _ (c .before .before .before .before .before .before .before .enum-told .given .1) _ (latch-unheard (c .before .before .before .before .before .before .before .before .before .before .turn .given .0 .0) (channelAt (turn t .loop .b) (c .before .before .before .before .before .before .before .before .before .before .turn .given .0 .0)) _ (c .before .before .before .before .before .latch-count .ensures))) _ _ (c .before .before .say2 .ensures)
 
 -- a mode set
 loop-again-3 : tie.Need-loop-again-3 Inv-loop μ-loop
@@ -114,13 +114,13 @@ loop-again-5 c =
 loop-again-6 : tie.Need-loop-again-6 Inv-loop μ-loop
 loop-again-6 c =
     let t = c .before .before .before .before .before .before .before .before .before .before .before .before .before in
-    next t _ (worked t _ _ (c .before .before .before .before .before .before .before .before .before .before .before .turn .given .1) _ (c .before .before .before .before .before .before .before .before .work4 .given .1) _ (ap quiet (sym (c .before .before .before .before .before .counts .ensures)))) _ _ (c .before .before .say6 .ensures)
+    next t _ (worked t _ _ (c .before .before .before .before .before .before .before .before .before .before .before .turn .given .1) _ (c .before .before .before .before .before .before .before .before .work4 .given .1) _ (ap unheard (sym (c .before .before .before .before .before .counts .ensures)))) _ _ (c .before .before .say6 .ensures)
 
 -- a load cycle
 loop-again-7 : tie.Need-loop-again-7 Inv-loop μ-loop
 loop-again-7 c =
     let t = c .before .before .before .before .before .before .before .before .before .before .before .before in
-    next t _ (worked t _ _ (c .before .before .before .before .before .before .before .before .before .before .turn .given .1) _ (c .before .before .before .before .before .before .before .enum-told3 .given .1) _ (ap quiet (sym (c .before .before .before .before .before .load-cycle .ensures)))) _ _ (c .before .before .say7 .ensures)
+    next t _ (worked t _ _ (c .before .before .before .before .before .before .before .before .before .before .turn .given .1) _ (c .before .before .before .before .before .before .before .enum-told3 .given .1) _ (ap unheard (sym (c .before .before .before .before .before .load-cycle .ensures)))) _ _ (c .before .before .say7 .ensures)
 
 -- a catch-up or a run
 loop-again-8 : tie.Need-loop-again-8 Inv-loop μ-loop
