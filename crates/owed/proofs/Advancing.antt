@@ -1,6 +1,7 @@
 -- How many ticks a turn of the loop makes at once, and what they do to a channel. Assumes nothing.
-use Prim.Native.Nat.{ℕ, suc, _<_, _≤_}
-use mathlib.Core.Path.{_≡_, sym, ap, _∙_}
+use Prim.Native.Nat.{ℕ, zero, suc, _<_, _≤_}
+use mathlib.Core.Logic.{_⊎_, inl, inr}
+use mathlib.Core.Path.{_≡_, refl, sym, ap, _∙_}
 use native.Mathlib.Omega.{arith}
 use lib.Dec.{eqb, ltb}
 use borrow.Author.Tests.{ltb-true, ltb-false, eqb-false, ne-eqb}
@@ -45,6 +46,10 @@ alike-few left owed c₀ c₁ c₂ skipped is =
       in-quiet₁ = omega (arith, s, a, l, not-above-first (quiet c₁) (quiet c₂));
       in-quiet₂ = omega (arith, s, a, l, not-above-second (quiet c₁) (quiet c₂));
     }
+
+pub none-or : (n : ℕ) → (n ≡ 0) ⊎ (n ≡ 0 → ⊥)
+none-or zero = inl refl
+none-or (suc n) = inr (λ none. omega (arith, none))
 
 pub passed-some : (skipped : ℕ) → (skipped ≡ 0 → ⊥) → passed skipped ≡ skipped
 passed-some skipped some = simp (ne-eqb _ _ some)

@@ -17,7 +17,7 @@ use Rattle.event.specs.Event.{eventOf}
 use Rattle.board.specs.declared.Board.{Board}
 use Rattle.board.specs.Board.{channelAt}
 use Rattle.owed.specs.BoardTick.{boardTick, tickEvent}
-use Rattle.owed.specs.Worked.{Room, put, size, needed, putAll, Work, oneMore, stops, workOn}
+use Rattle.owed.specs.Worked.{Room, put, size, needed, Work, oneMore, stops, workOn}
 
 three-are : (xs : List Channel) → length xs ≡ 3 → xs ≡ getD xs 0 blank ∷ getD xs 1 blank ∷ getD xs 2 blank ∷ []
 three-are [] three = absurd (omega arith)

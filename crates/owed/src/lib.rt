@@ -20,6 +20,7 @@ ghost use Rattle.owed.specs.Worked.{size, put, workOn, begun, report, wo
 ghost use Rattle.owed.specs.Told.{smaller};
 ghost use Rattle.owed.specs.Advanced.{alike, passed, Advanced};
 
+// The smaller of two numbers.
 fn least(a: u32, b: u32) -> u32
     ensures { λ r. ⌜ r ≡ smaller a b ⌝ }
 {
@@ -29,7 +30,7 @@ fn least(a: u32, b: u32) -> u32
     a
 }
 
-// How many of the next ticks have no event on any channel: at most what is left and what is owed.
+// How many of the next ticks are quiet on all three channels, of those that are left and owed; it may be none.
 fn alike(left: u32, owed: u32, c0: Channel, c1: Channel, c2: Channel) -> u32
     ensures { λ r. ⌜ r ≡ alike left owed c0 c1 c2 ⌝ }
 {
@@ -52,7 +53,7 @@ fn passed(skipped: u32) -> u32
     skipped
 }
 
-// The channel after those ticks. That its element has 16 bits is known of an argument, so the laws of quiet ticks are drawn on here.
+// The channel after those ticks. The laws of quiet ticks ask for an element of 16 bits; of an argument that is known, so they are drawn on here.
 fn advance(c: Channel, model: PitType, skipped: u32) -> Channel
     requires { ⌜ skipped ≤ quiet c ⌝ }
     ensures { λ r. ⌜ Advanced model skipped c r ⌝ }

@@ -11,7 +11,9 @@ returns-2 : tie.Need-returns-2
 returns-2 c =
     let s = c .before .before in
     let a = s .args in
-    skips-some (a .model) (a .c) (a .skipped) _ (c .before .if1 .left) (s .good .0 .1 .1 .1 .1 .1 .1 .0 .1 .1 .1 .1 .0 .1) (s .pre) (c .skip .ensures)
+    -- owning the channel tells that its element has 16 bits
+    let fits = s .good .0 .1 .1 .1 .1 .1 .1 .0 .1 .1 .1 .1 .0 .1 in
+    skips-some (a .model) (a .c) (a .skipped) _ (c .before .if1 .left) fits (s .pre) (c .skip .ensures)
 
 pub advance-spec : {M : Type 1} → statement M
 advance-spec = tie.close (tie.spec (λ c κs. search needs) returns (λ c κs. search needs) returns-2)

@@ -1,15 +1,15 @@
 -- `owed::work_on` meets its contract. Assumes nothing.
 use Prim.Native.Nat.{_+_, _-_, _<_, _≤_}
-use mathlib.Core.Path.{_≡_, sym, ap, _∙_}
+use mathlib.Core.Path.{sym, _∙_}
 use native.Mathlib.Omega.{arith}
 use lib.ListN.{length, length-map}
 use borrow.Author.Needs.{needs}
 use Rattle.board.specs.Board.{channelAt}
 use Rattle.owed.specs.Worked.{size}
-use Rattle.owed.specs.Advanced.{passed}
 use Rattle.owed.proofs.Puts.{size-small}
 use Rattle.owed.proofs.Advancing.{Few, alike-few, passed-least, passed-most}
-use Rattle.owed.proofs.Working.{Turn, Working, begins, all-made, none-owed, too-full, goes-on}
+use Rattle.owed.proofs.Turns.{Turn}
+use Rattle.owed.proofs.Working.{Working, begins, all-made, none-owed, too-full, goes-on}
 use Rattle.owed.proofs.work_on.Statement.{statement}
 use Rattle.owed.proofs.work_on.Tie as tie
 
