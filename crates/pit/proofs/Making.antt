@@ -10,12 +10,12 @@ use Rattle.refusal.specs.declared.Refusal.{Refusal}
 use Rattle.refusal.specs.declared.Refusal.the-variants.{PortUnknown, ChannelAbove2, DivisorZero, TicksBelowWarp, RemainderTooLarge, TooManyCounts, PlacePastEnd, NoRoom, TraceEnds, SettingsCount, TooManyOperations, UnknownCode, BytesAfter, RuleBroken, TooManyTicks, TicksOwed}
 use Rattle.refusal.specs.Refusal.{refusalNumber}
 use Rattle.board.specs.declared.Answer.{Answer}
-use Rattle.board.specs.declared.Answer.the-variants.{Refused, Done, Place, Byte, Ticks, OutputState, Count, Retriggers, Dirty}
+use Rattle.board.specs.declared.Answer.the-variants.{Refused, Done, Place, Byte, Ticks, OutputState, Count, Retriggers, Dirty, Worked}
 use Rattle.board.specs.Answer.{replyOf}
 use Rattle.board.proofs.Answer.{the-type}
 
-pub not-refused : (a : Answer) → OneOf (1 ∷ 2 ∷ 3 ∷ 4 ∷ 5 ∷ 6 ∷ 7 ∷ 8 ∷ []) (tagOf the-type a) → numberIn (replyOf a) ≡ 0
-not-refused (Refused refusal) other = absurd (miss (1 ∷ 2 ∷ 3 ∷ 4 ∷ 5 ∷ 6 ∷ 7 ∷ 8 ∷ []) 0 tt other)
+pub not-refused : (a : Answer) → OneOf (1 ∷ 2 ∷ 3 ∷ 4 ∷ 5 ∷ 6 ∷ 7 ∷ 8 ∷ 9 ∷ []) (tagOf the-type a) → numberIn (replyOf a) ≡ 0
+not-refused (Refused refusal) other = absurd (miss (1 ∷ 2 ∷ 3 ∷ 4 ∷ 5 ∷ 6 ∷ 7 ∷ 8 ∷ 9 ∷ []) 0 tt other)
 not-refused Done other = refl
 not-refused (Place p) other = refl
 not-refused (Byte x) other = refl
@@ -24,6 +24,7 @@ not-refused (OutputState level) other = refl
 not-refused (Count c) other = refl
 not-refused (Retriggers answer) other = refl
 not-refused (Dirty dirty counting ticked) other = refl
+not-refused (Worked w) other = refl
 
 pub number-set : (refusal : Refusal) → eqb (refusalNumber refusal) 0 ≡ false
 number-set PortUnknown = refl

@@ -33,8 +33,8 @@ called status bytes events answer = record { status = status; bytes = bytes; eve
 abbrev pub numbersAnswer : Numbers → List ℕ
 numbersAnswer n = answerBytes (n .first) (n .second) (n .third)
 
--- "then document 01's 1 to 8 in its order"; otherwise the board and the answer are written back. A refused operation leaves the event bytes as they were
--- (`refused-leaves-all`)
+-- "then refusals 1 to 8, 15 and 16 in document 01's order and request L1's"; otherwise the board and the answer are written back. A refused operation leaves
+-- the event bytes as they were (`refused-leaves-all`)
 abbrev pub settled : Outcome-in-numbers → List ℕ → List ℕ → Called
 settled o bytes answer =
     cond (eqb (o .numbers .refusal) 0)
@@ -60,7 +60,7 @@ boardOperation code target number place bytes events answer =
 -- `pit_board_new`: 101; 103 "a model above 1"; then refusal 3
 unfoldable pub newStatus : ℕ → ℕ → List ℕ → ℕ
 newStatus model divisor bytes =
-    cond (ltb (length bytes) 101) 101 (cond (ltb 1 model) 103 (numberIn (new (modelNumbered model) divisor .reply)))
+    cond (ltb (length bytes) 105) 101 (cond (ltb 1 model) 103 (numberIn (new (modelNumbered model) divisor .reply)))
 
 -- "writes the fresh board of a model, 0 or 1, with a divisor"; "with such a number no lent byte changes"
 unfoldable pub newAfter : ℕ → ℕ → List ℕ → List ℕ

@@ -81,7 +81,7 @@ pub extern "C" fn pit_board_operation(
 pub extern "C" fn pit_board_new(bytes: &mut [u8], model: u8, divisor: u32) -> u32
     ensures { λ r. ⌜ (r ≡ newStatus model divisor (now (bytes .entry))) × (now (bytes .exit) ≡ newAfter model divisor (now (bytes .entry))) ⌝ }
 {
-    if bytes.len() < 101 {
+    if bytes.len() < 105 {
         return SHORT_RECORD;
     }
     if 1 < model {
