@@ -3,9 +3,9 @@
 use libc::STDIN_FILENO;
 use libc::STDOUT_FILENO;
 
-// A case: the board before (101 bytes); how many event bytes are lent (1), and the event bytes before (8); the place (8), code (1), target (2) and
-// number (4); the status (1); the board after (101), the event bytes after (8) and the answer (16).
-const CASE: usize = 251;
+// A case: the board before (105 bytes); how many event bytes are lent (1), and the event bytes before (8); the place (8), code (1), target (2) and
+// number (4); the status (1); the board after (105), the event bytes after (8) and the answer (16).
+const CASE: usize = 259;
 
 // More than any sample has: the loop ends even if the input does not.
 const MOST: u64 = 1000000;
@@ -17,8 +17,8 @@ const OLD_ANSWER: u8 = 0xA5;
 const NOT_LENT: u32 = 255;
 
 fn place_in(case: &[u8]) -> usize {
-    let low = numbers::number_at(case, 110);
-    let high = numbers::number_at(case, 114);
+    let low = numbers::number_at(case, 114);
+    let high = numbers::number_at(case, 118);
     low as usize + 4294967296 * (high as usize)
 }
 
@@ -37,9 +37,9 @@ fn operation(
         return NOT_LENT;
     }
     let place = place_in(case);
-    let code = case[118];
-    let target = numbers::word(case[119], case[120]);
-    let number = numbers::number_at(case, 121);
+    let code = case[122];
+    let target = numbers::word(case[123], case[124]);
+    let number = numbers::number_at(case, 125);
     pit::pit_board_operation(
         board,
         &mut events[..lent],
@@ -55,26 +55,26 @@ fn agrees(case: &[u8]) -> bool {
     if case.len() != CASE {
         return false;
     }
-    let mut board = [0u8; 101];
+    let mut board = [0u8; 105];
     let mut events = [0u8; 8];
     let mut answer = [OLD_ANSWER; 16];
-    bytes::copy(&case[0..101], &mut board);
-    bytes::copy(&case[102..110], &mut events);
+    bytes::copy(&case[0..105], &mut board);
+    bytes::copy(&case[106..114], &mut events);
     let status = operation(
         case,
         &mut board,
         &mut events,
-        case[101] as usize,
+        case[105] as usize,
         &mut answer,
     );
-    if status != case[125] as u32 {
+    if status != case[129] as u32 {
         return false;
     }
-    if !check::same(&board, &case[126..227]) {
+    if !check::same(&board, &case[130..235]) {
         return false;
     }
-    if check::same(&events, &case[227..235]) {
-        return check::same(&answer, &case[235..]);
+    if check::same(&events, &case[235..243]) {
+        return check::same(&answer, &case[243..]);
     }
     false
 }
@@ -87,7 +87,7 @@ enum Turn {
 }
 
 fn next_case() -> Turn {
-    let mut case = [0u8; 251];
+    let mut case = [0u8; 259];
     let left = io::read_full(STDIN_FILENO, &mut case);
     if left < CASE {
         return Turn::End(left);

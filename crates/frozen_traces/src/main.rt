@@ -49,7 +49,7 @@ fn read_part(part: &mut [u8]) -> Part
 
 // Whether a replay of the trace answers 0 and the text's length, and writes the text.
 fn replays(trace: &[u8], text: &[u8]) -> bool {
-    let mut out = [0u8; 196704];
+    let mut out = [0u8; 262272];
     let mut answer = [0u8; 16];
     let length = text.len();
     if out.len() < length {
@@ -77,7 +77,7 @@ enum Turn {
 fn next_text(trace: &[u8]) -> Turn
     requires { do ⌜ (← ⟦trace.len()⟧) ≤ 65536 ⌝ }
 {
-    let mut text = [0u8; 196704];
+    let mut text = [0u8; 262272];
     let part = read_part(&mut text);
     let length = part.length;
     if !part.whole {

@@ -75,7 +75,7 @@ fn say(text: &[u8]) {
 fn show_end(name: &[u8], trace: &[u8], length: usize, most: usize) {
     say(name);
     say(b": ");
-    let mut output = [0u8; 196704];
+    let mut output = [0u8; 262272];
     if length <= trace.len() {
         let printed = runner::replay(&trace[0..length], &mut output);
         if most < printed {
@@ -89,7 +89,7 @@ fn show_end(name: &[u8], trace: &[u8], length: usize, most: usize) {
 }
 
 fn show(name: &[u8], trace: &[u8], length: usize) {
-    show_end(name, trace, length, 196704);
+    show_end(name, trace, length, 262272);
 }
 
 fn sound_settings(operations: u32) -> Settings {
@@ -212,7 +212,7 @@ fn more_heads() {
 
 fn rules() {
     whole(b"code 0", 0, 0x43, 0);
-    whole(b"code 9, target and number wrong for 8", 9, 1, 1);
+    whole(b"code 10, target and number wrong for 8", 10, 1, 1);
     whole(b"write, number 256", 1, 0x43, 256);
     whole(b"read, number 1", 2, 0x43, 1);
     whole(b"gate, number 2", 3, 0, 2);
@@ -221,10 +221,11 @@ fn rules() {
     whole(b"run, target 255", 7, 255, 0);
     whole(b"reset, target 1 and number 1", 8, 1, 1);
     whole(b"reset, number 16777216", 8, 0, 16777216);
+    whole(b"work off, target 1", 9, 1, 65537);
     one(
-        b"code 9, a byte missing",
+        b"code 10, a byte missing",
         Operation {
-            code: 9,
+            code: 10,
             target: 0,
             number: 0,
         },
@@ -254,11 +255,14 @@ fn when_run() {
     whole(b"catch-up, number 4294967295", 6, 0, 4294967295);
     whole(b"run, number 0", 7, 0, 0);
     whole(b"reset", 8, 0, 0);
+    whole(b"work off, number 65536", 9, 0, 65536);
+    whole(b"work off, number 65537", 9, 0, 65537);
+    whole(b"work off, number 4294967295", 9, 0, 4294967295);
 }
 
 fn last_places() {
     last(b"4,096 operations", 2, 0x40, 0, LONGEST);
-    last(b"last code 9", 9, 0, 0, LONGEST);
+    last(b"last code 10", 10, 0, 0, LONGEST);
     last(b"last target 1", 6, 1, 0, LONGEST);
     last(b"last number 2", 3, 0, 2, LONGEST);
     last(b"last byte missing", 2, 0x40, 0, 24591);

@@ -31,7 +31,7 @@ fn say(text: &[u8], number: u64) {
 }
 
 fn show(prefix: &[u8]) {
-    let mut output = [0u8; 196704];
+    let mut output = [0u8; 262272];
     let printed = runner::replay(prefix, &mut output);
     say(b"", prefix.len() as u64);
     say(b" bytes print ", printed as u64);

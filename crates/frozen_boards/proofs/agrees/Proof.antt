@@ -5,10 +5,10 @@ use Rattle.frozen_boards.proofs.agrees.Statement.{statement}
 use Rattle.frozen_boards.proofs.agrees.Tie as tie
 
 cast-operation : tie.Need-cast-operation
-cast-operation c = omega (arith, c .shared-slice-known2 .given 101)
+cast-operation c = omega (arith, c .shared-slice-known2 .given 105)
 
 cast-if2 : tie.Need-cast-if2
-cast-if2 c = omega (arith, c .shared-slice-known3 .given 125)
+cast-if2 c = omega (arith, c .shared-slice-known3 .given 129)
 
 pub agrees-spec : {M : Type 1} → statement M
 agrees-spec =
