@@ -22,7 +22,7 @@ uint32_t pit_answers(const uint8_t *trace, size_t trace_len, uint8_t *out, size_
 /* The functions by the first byte of a frame, and the places in each kind of frame. */
 enum { FRESH, OPERATION, BOARD_NEW, BOARD_OPERATION, REPLAY, ANSWERS };
 enum { CHANNEL_FRAME = 80, RECORD = 8, ANSWER = 56 };
-enum { BOARD_FRAME = 192, BOARD = 24, EVENTS = 144, BOARD_ANSWER = 160 };
+enum { BOARD_FRAME = 240, BOARD = 24, EVENTS = 144, BOARD_ANSWER = 208 };
 enum { TRACE_HEAD = 32, PAST_OUT = 16, TRACE_ANSWER_ROOM = 32 };
 
 void *memcpy(void *to, const void *from, size_t n)

@@ -5,6 +5,7 @@
 
 mod measure;
 mod ours;
+mod ticks;
 mod workloads;
 
 use measure::{apart, apart_head, head, print_apart, print_row, sides, Apart, Row};
@@ -13,7 +14,7 @@ use std::hint::black_box;
 use workloads::Workload;
 
 /// Room for every replay.
-const ROOM: usize = 196_704;
+const ROOM: usize = 262_272;
 const REPETITIONS: usize = 61;
 
 type Whole = fn(&[u8], &mut [u8]) -> Option<usize>;
@@ -74,10 +75,23 @@ fn everything(repetitions: usize) {
     for workload in workloads::growing() {
         print_row(&whole(&workload, repetitions, ours::answers, baseline::answers));
     }
+    head("a run of 65,536 ticks, worked off in one call, beside the original's run; channel 0 counts");
+    for row in ticks::rows(repetitions) {
+        print_row(&row);
+    }
+    println!("operations refused while ticks are owed: {}", refused_while_owed());
     apart_head("one call at a time, our board in bytes");
     for workload in workloads::single() {
         print_apart(&one_at_a_time(&workload, repetitions));
     }
+}
+
+/// Of the mixed trace, the operations that both sides refuse with 16, behind ticks whose events did not fit six bytes.
+fn refused_while_owed() -> String {
+    let (workload, mut out) = (&workloads::all()[0], vec![0; ROOM]);
+    let length = ours::answers(&workload.trace, &mut out).expect("a sound trace");
+    let refused = out[..length].chunks(16).filter(|answer| answer[0] == 16).count();
+    format!("{refused} of {} in {}", workload.operations, workload.name)
 }
 
 fn only(name: &str, turns: usize, side: &str) -> Option<()> {

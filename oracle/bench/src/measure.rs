@@ -107,5 +107,7 @@ pub fn head(what: &str) {
 }
 
 pub fn print_row(row: &Row) {
-    println!("{:<40} {:>10.2} {:>10.2} {:>7.2}", row.name, row.ours, row.original, row.ours / row.original);
+    let ratio = row.ours / row.original;
+    let places = if ratio < 0.1 { 4 } else { 2 };
+    println!("{:<40} {:>10.2} {:>10.2} {ratio:>7.places$}", row.name, row.ours, row.original);
 }

@@ -1,6 +1,6 @@
 //! The traces that are measured. All begin with settings and end in the operations; the seed is fixed.
 
-/// A trace of some operations: divisor 12, the 8254.
+/// A trace of some operations on the 8254.
 pub struct Workload {
     pub name: &'static str,
     pub trace: Vec<u8>,
@@ -16,14 +16,22 @@ impl Workload {
 
 type Six = [u8; 6];
 
+/// All ticks that are owed, as far as the events of three channels fit six bytes.
+const WORK_OFF: Six = [9, 0, 0, 0, 1, 0];
+
 fn six(code: u8, target: u8, number: u32) -> Six {
     let n = number.to_le_bytes();
     [code, target, n[0], n[1], n[2], n[3]]
 }
 
+/// With divisor 12.
 fn workload(name: &'static str, operations: Vec<Six>) -> Workload {
+    divided(name, 12, operations)
+}
+
+fn divided(name: &'static str, divisor: u32, operations: Vec<Six>) -> Workload {
     let mut trace = Vec::new();
-    for number in [2, 12, 1, operations.len() as u32] {
+    for number in [2, divisor, 1, operations.len() as u32] {
         trace.extend_from_slice(&number.to_le_bytes());
     }
     operations.iter().for_each(|op| trace.extend_from_slice(op));
@@ -82,25 +90,37 @@ fn times(number: usize, ticks: u32) -> Vec<Six> {
     each(number, |i| if i % 2 == 0 { six(6, 0, ticks / 2) } else { six(7, 0, ticks) })
 }
 
-/// What a robot's program does with the chip, in random order: all eight codes, most of them on good ports and channels.
+/// The same, and behind each the ticks that it yields, worked off on channels that wait for a count.
+fn worked_times(number: usize, ticks: u32) -> Vec<Six> {
+    times(number / 2, ticks).into_iter().flat_map(|time| [time, WORK_OFF]).collect()
+}
+
+/// What a robot's program does with the chip, in random order: all codes, most of them on good ports and channels. Behind each time call its ticks are worked off.
 fn mixed(number: usize) -> Vec<Six> {
-    each(number, |i| {
-        let r = mixed_up(i);
-        let c = (r >> 8) as u8 % 3;
-        match r % 32 {
-            0 | 1 => six(1, 0x43, u32::from(c) << 6 | [0x30, 0x34, 0x36, 0x12, 0x38, 0x3A, 0x31, 0x35][(r >> 16) as usize % 8]),
-            2..=7 => six(1, 0x40 + c, r >> 24),
-            8..=10 => six(1, 0x43, u32::from(c) << 6),
-            11..=16 => six(2, 0x40 + c, 0),
-            17..=19 => six(3, c, r >> 31),
-            20..=23 => six(4, c, r >> 30),
-            24..=26 => six(5, c, 0),
-            27 | 28 => six(6, 0, 40 + (r >> 28)),
-            29 | 30 => six(7, 0, 60 + (r >> 28)),
-            _ if r >> 29 == 0 => six(8, 0, 0),
-            _ => six(2, 0x44, 0),
-        }
-    })
+    let mut operations: Vec<Six> = Vec::new();
+    for i in 0..number {
+        let elapsed = operations.last().is_some_and(|last| matches!(last[0], 6 | 7));
+        operations.push(if elapsed { WORK_OFF } else { any(i) });
+    }
+    operations
+}
+
+fn any(i: usize) -> Six {
+    let r = mixed_up(i);
+    let c = (r >> 8) as u8 % 3;
+    match r % 32 {
+        0 | 1 => six(1, 0x43, u32::from(c) << 6 | [0x30, 0x34, 0x36, 0x12, 0x38, 0x3A, 0x31, 0x35][(r >> 16) as usize % 8]),
+        2..=7 => six(1, 0x40 + c, r >> 24),
+        8..=10 => six(1, 0x43, u32::from(c) << 6),
+        11..=16 => six(2, 0x40 + c, 0),
+        17..=19 => six(3, c, r >> 31),
+        20..=23 => six(4, c, r >> 30),
+        24..=26 => six(5, c, 0),
+        27 | 28 => six(6, 0, 40 + (r >> 28)),
+        29 | 30 => six(7, 0, 60 + (r >> 28)),
+        _ if r >> 29 == 0 => six(8, 0, 0),
+        _ => six(2, 0x44, 0),
+    }
 }
 
 pub fn all() -> Vec<Workload> {
@@ -114,9 +134,10 @@ pub fn all() -> Vec<Workload> {
         workload("single counts, BCD", counts(4096, 1, 0x31)),
         workload("65,536 counts a call, binary", counts(128, 65_536, 0x30)),
         workload("65,536 counts a call, BCD", counts(36, 65_536, 0x31)),
-        workload("catch-ups and runs, 24 ticks", times(4096, 24)),
-        workload("catch-ups and runs, 60 ticks", times(4096, 60)),
-        workload("catch-ups and runs, 12,000 ticks", times(4096, 12_000)),
+        divided("catch-ups and runs that yield no tick", u32::MAX, times(4096, 24)),
+        workload("the same of 24 ticks, each worked off", worked_times(4096, 24)),
+        workload("the same of 60 ticks, each worked off", worked_times(4096, 60)),
+        workload("the same of 12,000 ticks, each worked off", worked_times(4096, 12_000)),
     ]
 }
 
@@ -137,6 +158,6 @@ pub fn single() -> Vec<Workload> {
         workload("latched reads", latched_reads(256)),
         workload("gates", gates(256)),
         workload("single counts, binary", counts(256, 1, 0x30)),
-        workload("catch-ups and runs, 24 ticks", times(256, 24)),
+        workload("catch-ups and runs, each worked off", worked_times(256, 24)),
     ]
 }

@@ -4,8 +4,10 @@ use crate::board_fields::{BoardField, OWN};
 use crate::board_frame::BoardFrame;
 use crate::board_operations::operation;
 use crate::ours::Ours;
-use original::pit::board::{fresh, number_at, put_number, Board, DIVISOR, MODEL};
-use original::pit::board_operation::{BoardOperation, Events};
+use crate::reference::WORK_OFF;
+use crate::trace_replay::lent;
+use original::pit::board::{fresh, number_at, put_number, Board, DIVISOR, LENGTH, MODEL};
+use original::pit::board_operation::BoardOperation;
 use original::pit::standing_board::StandingBoard;
 use std::process::{Command, Stdio};
 use std::time::{Duration, Instant};
@@ -13,7 +15,7 @@ use std::time::{Duration, Instant};
 pub struct BoardBench<'a> {
     calls: &'a mut Ours,
     ours: Board,
-    /// What our last step returned, answered and left in two event bytes.
+    /// What our last step returned, answered and left in the event bytes.
     status: u32,
     answer: u64,
     events: Vec<u8>,
@@ -60,6 +62,8 @@ impl<'a> BoardBench<'a> {
                 self.said = self.original_alone(words)?;
                 return Ok(());
             }
+            // The original's time calls make their ticks themselves.
+            ["work", ticks] => (operation(WORK_OFF, 0, number(ticks)?), Ok(String::new())),
             ["port", port, byte] => {
                 let (port, byte) = (hex(port)?, hex(byte)? as u8);
                 (operation(1, port, byte.into()), self.original.write(port, byte))
@@ -88,7 +92,7 @@ impl<'a> BoardBench<'a> {
     }
 
     fn on_ours(&mut self, op: BoardOperation) {
-        let reply = self.calls.call(BoardFrame::operation(&self.ours, &Events { bytes: [0; 8], len: 2 }, op));
+        let reply = self.calls.call(BoardFrame::operation(&self.ours, &lent(op.code), op));
         (self.ours, self.status, self.answer, self.events) = (reply.board(), reply.status(), 0, reply.events().to_vec());
         if reply.status() == 0 {
             self.answer = reply.numbers().0;
@@ -104,7 +108,7 @@ impl<'a> BoardBench<'a> {
             field.put(&mut board, field.parse(value).ok_or(format!("not a value of {name}: {value}"))?);
         }
         let (model, divisor) = (board[MODEL], number_at(&board, DIVISOR));
-        let made = self.calls.call(BoardFrame::new(&fresh(0, 1), 101, model, divisor));
+        let made = self.calls.call(BoardFrame::new(&fresh(0, 1), LENGTH as u8, model, divisor));
         (self.status, self.answer, self.said) = (made.status(), 0, Ok(String::new()));
         self.ours = made.board();
         self.ours[DIVISOR..].copy_from_slice(&board[DIVISOR..]);

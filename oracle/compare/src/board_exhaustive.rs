@@ -7,10 +7,10 @@ use crate::board_operations::{operation, NAMES};
 use crate::fields::{ELEMENT, GATE, MODE, OUTPUT, STATE};
 use crate::random::Random;
 use original::pit::board::{fresh, put_number, Board, DEFER, DIVISOR, MODEL, REMAINDER, WARP};
-use original::pit::board_operation::{BoardOperation, Events};
+use original::pit::board_operation::{BoardOperation, Events, EVENT_ROOM};
 
 const ROOMS: std::ops::RangeInclusive<u8> = 0..=6;
-const ROOMY: Events = Events { bytes: [0xEE; 8], len: 8 };
+const ROOMY: Events = Events { bytes: [0xEE; EVENT_ROOM], len: 8 };
 
 /// Divisors, and numbers of ticks, at which something changes.
 const DIVISORS: [u32; 14] = [0, 1, 2, 3, 4, 5, 11, 12, 13, 65_536, 0x10_0000, 0x7FFF_FFFF, 0xFFFF_FFFE, 0xFFFF_FFFF];
@@ -35,7 +35,7 @@ fn targets(judge: &mut BoardJudge) {
 }
 
 /// The rooms of event bytes with the places in them, at their end and past it.
-fn rooms_and_places() -> impl Iterator<Item = (u8, u64)> {
+pub fn rooms_and_places() -> impl Iterator<Item = (u8, u64)> {
     let past = |room: u8| (0..=u64::from(room) + 2).chain([1 << 32, u64::MAX]);
     ROOMS.flat_map(move |room| past(room).map(move |place| (room, place)))
 }
@@ -48,7 +48,7 @@ fn bytes(judge: &mut BoardJudge) {
             for (room, place) in rooms_and_places() {
                 let mut board = random.board();
                 (board[MODEL], board[DEFER]) = (model, defer);
-                let events = Events { bytes: random.next().to_le_bytes(), len: room };
+                let events = random.events_of(room);
                 judge.ask(&board, &events, BoardOperation { place, ..operation(1, port, byte) });
             }
         }
@@ -66,7 +66,7 @@ fn gates(judge: &mut BoardJudge) {
             for (field, value) in [(MODE, mode), (STATE, state), (GATE, levels & 1), (OUTPUT, levels >> 1 & 1)] {
                 field.put(record, value);
             }
-            let events = Events { bytes: random.next().to_le_bytes(), len: room };
+            let events = random.events_of(room);
             judge.ask(&board, &events, BoardOperation { place, ..operation(3, c, levels >> 2) });
         }
     }

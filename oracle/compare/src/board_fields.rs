@@ -1,15 +1,16 @@
 //! The fields of a board by name: those of its three records, and its own.
 
 use crate::fields::{field, Field, FIELDS};
-use original::pit::board::{Board, DEFER, DIVISOR, MODEL, REMAINDER, WARP};
+use original::pit::board::{Board, DEFER, DIVISOR, MODEL, OWED, REMAINDER, WARP};
 
 /// What a board holds beside its records.
-pub const OWN: [Field; 5] = [
+pub const OWN: [Field; 6] = [
     field("model", MODEL, 1, 1),
     field("divisor", DIVISOR, 4, 0xFFFF_FFFF),
     field("remainder", REMAINDER, 4, 0xFFFF_FFFF),
     field("warp", WARP, 4, 0xFFFF_FFFF),
     field("defer", DEFER, 1, 1),
+    field("owed", OWED, 4, 0xFFFF_FFFF),
 ];
 
 /// A field of a channel's record, or of the board itself.

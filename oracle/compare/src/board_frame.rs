@@ -1,18 +1,18 @@
-//! A call of one of the two functions of a board: 192 bytes, which become the reply.
+//! A call of one of the two functions of a board: 240 bytes, which become the reply.
 //!
 //! The head has 24 bytes: the function (2 new, 3 operation), the lengths lent for board, events and answer, the operation's code or the model, the filler,
 //! the target (2), the number or the divisor (4), the status of the reply (4), the event place (8). Then come 120 bytes of which the board is the first,
-//! 16 of which the event bytes are, and 32 of which the answer is. All other bytes hold the filler.
+//! 64 of which the event bytes are, and 32 of which the answer is. All other bytes hold the filler.
 
 use crate::linked;
 use crate::ours::Call;
-use original::pit::board::Board;
+use original::pit::board::{Board, LENGTH};
 use original::pit::board_operation::{BoardOperation, Events, Numbers};
 
-const FRAME: usize = 192;
+const FRAME: usize = 240;
 const BOARD: usize = 24;
 const EVENTS: usize = 144;
-const ANSWER: usize = 160;
+const ANSWER: usize = 208;
 
 /// The bytes that can be lent for a board and for an answer.
 pub const BOARD_ROOM: u8 = 120;
@@ -53,7 +53,7 @@ impl Call for BoardFrame {
 impl BoardFrame {
     pub fn new(board: &Board, board_len: u8, model: u8, divisor: u32) -> Self {
         let op = BoardOperation { code: model, target: 0, number: divisor, place: 0 };
-        let mut frame = Self::operation(board, &Events { bytes: [0; 8], len: 0 }, op);
+        let mut frame = Self::operation(board, &Events::zeros(0), op);
         (frame.0[0], frame.0[1]) = (2, board_len);
         frame
     }
@@ -63,13 +63,12 @@ impl BoardFrame {
         let sum = board.iter().fold(u32::from(op.code), |sum, byte| sum.wrapping_mul(31).wrapping_add(u32::from(*byte)));
         let filler = (sum >> 8) as u8;
         let mut bytes = [filler; FRAME];
-        bytes[..6].copy_from_slice(&[3, 101 + (sum % 20) as u8, events.len, 16 + (sum / 20 % 17) as u8, op.code, filler]);
+        bytes[..6].copy_from_slice(&[3, LENGTH as u8 + (sum % 16) as u8, events.len, 16 + (sum / 16 % 17) as u8, op.code, filler]);
         bytes[6..8].copy_from_slice(&op.target.to_le_bytes());
         bytes[8..12].copy_from_slice(&op.number.to_le_bytes());
         bytes[16..24].copy_from_slice(&op.place.to_le_bytes());
-        bytes[BOARD..BOARD + 101].copy_from_slice(board);
-        let len = usize::from(events.len);
-        bytes[EVENTS..EVENTS + len].copy_from_slice(&events.bytes[..len]);
+        bytes[BOARD..BOARD + LENGTH].copy_from_slice(board);
+        bytes[EVENTS..EVENTS + usize::from(events.len)].copy_from_slice(events.lent());
         BoardFrame(bytes)
     }
 
@@ -88,7 +87,7 @@ impl BoardFrame {
     }
 
     pub fn board(&self) -> Board {
-        self.0[BOARD..BOARD + 101].try_into().expect("101 bytes")
+        self.0[BOARD..BOARD + LENGTH].try_into().expect("a board's bytes")
     }
 
     /// The event bytes that were lent.
@@ -105,7 +104,7 @@ impl BoardFrame {
     pub fn rest_untouched(&self) -> bool {
         let filler = self.0[5];
         let past_events = EVENTS + usize::from(self.0[2]);
-        let rest = [BOARD + 101..EVENTS, past_events..ANSWER, ANSWER + 16..FRAME];
+        let rest = [BOARD + LENGTH..EVENTS, past_events..ANSWER, ANSWER + 16..FRAME];
         rest.into_iter().all(|part| self.0[part].iter().all(|byte| *byte == filler))
     }
 }

@@ -4,8 +4,9 @@ use crate::board_fields::{all, differing};
 use crate::board_frame::BoardFrame;
 use crate::board_operations::{self, NAMES};
 use crate::ours::{Call, Ours};
+use crate::reference::{Reference, WORK_OFF};
 use original::pit::board::{fresh, Board};
-use original::pit::board_operation::{BoardOperation, BoardOracle, BoardOutcome, Events};
+use original::pit::board_operation::{BoardOperation, BoardOutcome, Events};
 
 /// Calls that are made at a time, and differences of one operation that are printed.
 const MOST: usize = BoardFrame::AT_A_TIME;
@@ -19,16 +20,18 @@ struct Waiting {
 }
 
 pub struct BoardJudge<'a> {
-    pub oracle: BoardOracle,
+    pub reference: Reference,
     pub ours: &'a mut Ours,
     waiting: Vec<Waiting>,
     frames: Vec<BoardFrame>,
     /// Operations compared, by their place in the table of names.
     pub compared: [u64; NAMES.len()],
-    /// Of these, the ones refused, by document 01's number.
-    pub refusals: [u64; 9],
+    /// Of these, the ones refused, by their number in documents 01 and 02.
+    pub refusals: [u64; 17],
     /// Of these, the ones that wrote an event.
     pub events: u64,
+    /// Ticks that were worked off.
+    pub ticks: u64,
     /// Calls that only docs/ENCODING.md judges: refused ones, and those that make a board.
     pub refused: u64,
     pub made: u64,
@@ -40,22 +43,26 @@ pub struct BoardJudge<'a> {
 impl<'a> BoardJudge<'a> {
     pub fn new(ours: &'a mut Ours) -> Self {
         let (waiting, frames, none) = (Vec::with_capacity(MOST), Vec::with_capacity(MOST), [0; NAMES.len()]);
-        let (oracle, refusals) = (BoardOracle::default(), [0; 9]);
-        Self { oracle, ours, waiting, frames, compared: none, refusals, events: 0, refused: 0, made: 0, differ: 0, said: 0, seen: none }
+        let (reference, refusals) = (Reference::default(), [0; 17]);
+        let (events, ticks, refused, made, differ, said) = (0, 0, 0, 0, 0, 0);
+        Self { reference, ours, waiting, frames, compared: none, refusals, events, ticks, refused, made, differ, said, seen: none }
     }
 
     pub fn total(&self) -> u64 {
         self.compared.iter().sum::<u64>() + self.refused + self.made
     }
 
-    /// Asks both sides for one operation and hands back what the original leaves.
+    /// Asks both sides for one operation and hands back what is due.
     pub fn ask(&mut self, start: &Board, events: &Events, op: BoardOperation) -> BoardOutcome {
-        let outcome = self.oracle.operation(start, events, op);
+        let outcome = self.reference.operation(start, events, op);
         self.waiting.push(Waiting { start: *start, events: *events, op, outcome });
         self.frames.push(BoardFrame::operation(start, events, op));
         self.compared[board_operations::place(op.code).expect("a code of the table")] += 1;
         self.refusals[outcome.status as usize] += 1;
-        self.events += u64::from(matches!(op.code, 1 | 3) && outcome.status == 0 && outcome.numbers.0 != op.place);
+        if matches!(op.code, 1 | 3 | WORK_OFF) && outcome.status == 0 {
+            self.events += u64::from(outcome.numbers.0 != op.place);
+            self.ticks += u64::from(outcome.numbers.1);
+        }
         if self.frames.len() == MOST {
             self.settle();
         }
@@ -82,7 +89,7 @@ impl<'a> BoardJudge<'a> {
     }
 
     fn both(&mut self, start: &Board, events: &Events, op: BoardOperation) -> (Waiting, BoardFrame) {
-        let outcome = self.oracle.operation(start, events, op);
+        let outcome = self.reference.operation(start, events, op);
         (Waiting { start: *start, events: *events, op, outcome }, self.ours.call(BoardFrame::operation(start, events, op)))
     }
 
@@ -103,15 +110,15 @@ impl<'a> BoardJudge<'a> {
     fn report(&mut self, asked: &Waiting) {
         let start = self.smallest(asked);
         let (asked, reply) = self.both(&start, &asked.events, asked.op);
-        let (outcome, lent) = (&asked.outcome, usize::from(asked.events.len));
+        let outcome = &asked.outcome;
         println!("difference: {}", board_operations::show(asked.op));
         println!("  start: the fresh 8253 board with divisor 12, and {}", differing(&start, &fresh(0, 12)));
         println!("  what:  {}", wrong(&asked, &reply).unwrap_or("gone when asked again"));
         println!("  status: ours {}, due {}", reply.status(), outcome.status);
         println!("  ours:         {}", differing(&reply.board(), &outcome.board));
-        println!("  the original: {}", differing(&outcome.board, &reply.board()));
-        println!("  events: before {:?}, ours {:?}, due {:?}", &asked.events.bytes[..lent], reply.events(), &outcome.events.bytes[..lent]);
-        println!("  answers: ours {:?}, the original's {:?}", reply.numbers(), outcome.numbers);
+        println!("  due:          {}", differing(&outcome.board, &reply.board()));
+        println!("  events: before {:?}, ours {:?}, due {:?}", asked.events.lent(), reply.events(), outcome.events.lent());
+        println!("  answers: ours {:?}, due {:?}", reply.numbers(), outcome.numbers);
     }
 
     /// Counts something of ours that is not as it should be, and says it while there are few.
@@ -126,14 +133,14 @@ impl<'a> BoardJudge<'a> {
 
 /// What is not the same on both sides, if anything. A refused call must leave all lent bytes, the answer's too.
 fn wrong(asked: &Waiting, reply: &BoardFrame) -> Option<&'static str> {
-    let (outcome, lent) = (&asked.outcome, usize::from(asked.events.len));
+    let outcome = &asked.outcome;
     if outcome.fault.is_some() {
         outcome.fault
     } else if reply.status() != outcome.status {
         Some("the statuses differ")
     } else if reply.board() != outcome.board {
         Some("the boards after it differ")
-    } else if *reply.events() != outcome.events.bytes[..lent] {
+    } else if reply.events() != outcome.events.lent() {
         Some("the event bytes differ")
     } else if outcome.status != 0 {
         let untouched = BoardFrame::operation(&asked.start, &asked.events, asked.op);

@@ -2,7 +2,7 @@
 
 use original::pit::board_operation::BoardOperation;
 
-pub const NAMES: [(u8, &str); 13] = [
+pub const NAMES: [(u8, &str); 14] = [
     (1, "write_port"),
     (2, "read_port"),
     (3, "set_channel_gate"),
@@ -11,6 +11,7 @@ pub const NAMES: [(u8, &str); 13] = [
     (6, "catch_up"),
     (7, "run"),
     (8, "reset"),
+    (9, "work_off"),
     (17, "get_output_state"),
     (18, "get_channel_count"),
     (19, "does_channel_retrigger"),
@@ -34,7 +35,7 @@ pub fn allowed(op: BoardOperation) -> bool {
         3 => op.number <= 1,
         2 | 5 | 17..=20 => op.number == 0,
         4 => true,
-        6 | 7 => op.target == 0,
+        6 | 7 | 9 => op.target == 0,
         8 | 21 => op.target == 0 && op.number == 0,
         _ => false,
     }

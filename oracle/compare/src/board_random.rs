@@ -3,7 +3,8 @@
 use crate::board_judge::BoardJudge;
 use crate::board_operations::operation;
 use crate::random::Random;
-use original::pit::board::{fresh, number_at, put_number, Board, DEFER, DIVISOR, MODEL, REMAINDER, WARP};
+use crate::reference::WORK_OFF;
+use original::pit::board::{fresh, number_at, put_number, Board, DEFER, DIVISOR, LENGTH, MODEL, OWED, REMAINDER, WARP};
 use original::pit::board_operation::{BoardOperation, Events, EVENT_ROOM};
 use original::pit::board_time::quotient;
 
@@ -12,8 +13,11 @@ const ALL: u64 = u32::MAX as u64;
 /// Quotients above this make the original slow; they are made seldom.
 const FEW_TICKS: u64 = 200;
 
-/// The operations of a chain, with how often each comes up.
-const CODES: [u8; 20] = [1, 1, 1, 1, 1, 1, 2, 2, 3, 3, 4, 5, 6, 7, 8, 17, 18, 19, 20, 21];
+/// As many owed ticks, or fewer, are worked off at once; of more, mostly some.
+const FEW_OWED: u32 = 300;
+
+/// The operations of a chain, with how often each comes up. While ticks are owed every second one works some off.
+const CODES: [u8; 21] = [1, 1, 1, 1, 1, 1, 2, 2, 3, 3, 4, 5, 6, 7, 8, WORK_OFF, 17, 18, 19, 20, 21];
 
 impl Random {
     fn divisor(&mut self) -> u32 {
@@ -38,9 +42,9 @@ impl Random {
         }
     }
 
-    /// A board in which every field has any of its values, also such as no calls lead to.
+    /// A board in which every field has any of its values, also such as no calls lead to. It owes no ticks.
     pub fn board(&mut self) -> Board {
-        let mut board = [0; 101];
+        let mut board = [0; LENGTH];
         for c in 0..3 {
             board[29 * c..29 * c + 29].copy_from_slice(&self.record());
         }
@@ -58,9 +62,30 @@ impl Random {
         fresh(self.below(2) as u8, divisor)
     }
 
+    /// How many ticks a board owes.
+    pub fn owed(&mut self) -> u32 {
+        match self.below(16) {
+            0..=11 => 1 + self.below(12) as u32,
+            12 | 13 => self.below(300) as u32,
+            14 => self.one_of(&[0, 65_535, 65_536, 65_537, u32::MAX]),
+            _ => self.next() as u32,
+        }
+    }
+
+    /// So many event bytes of any content, and any content past them.
+    pub fn events_of(&mut self, len: u8) -> Events {
+        let mut bytes = [0; EVENT_ROOM];
+        bytes.chunks_exact_mut(8).for_each(|eight| eight.copy_from_slice(&self.next().to_le_bytes()));
+        Events { bytes, len }
+    }
+
     pub fn events(&mut self) -> Events {
-        let len = if self.one_in(4) { self.below(EVENT_ROOM as u64 + 1) } else { 2 + self.below(3) };
-        Events { bytes: self.next().to_le_bytes(), len: len as u8 }
+        let len = match self.below(8) {
+            0 => self.below(9),
+            1 => self.below(EVENT_ROOM as u64 + 1),
+            _ => 2 + self.below(5),
+        };
+        self.events_of(len as u8)
     }
 
     /// A place in the event bytes, mostly one with room left, else one at their end, past it, or far past it.
@@ -128,6 +153,7 @@ impl Random {
             9 => self.next() & ALL,
             10 => ALL - near,
             11 => near,
+            12 | 13 => warp + divisor * self.below(60),
             _ => warp + self.below(100),
         };
         let ticks = ticks.min(ALL) as u32;
@@ -144,8 +170,21 @@ impl Random {
         }
     }
 
+    /// A number of ticks to work off: about those owed, few, as many as may be, or more.
+    pub fn stated(&mut self, owed: u32) -> u32 {
+        match self.below(4096) {
+            0..=511 => self.one_of(&[65_537, 65_538, 1 << 17, u32::MAX]),
+            512..=1535 => self.below(4) as u32,
+            1536..=2559 if owed <= FEW_OWED => (owed + self.below(3) as u32).saturating_sub(1),
+            2560.. if owed <= FEW_OWED => self.one_of(&[65_535, 65_536]),
+            2560 => self.one_of(&[65_535, 65_536]),
+            _ => self.below(60) as u32,
+        }
+    }
+
     pub fn board_operation(&mut self, board: &Board, events: &Events) -> BoardOperation {
-        let code = self.one_of(&CODES);
+        let owed = number_at(board, OWED);
+        let code = if owed > 0 && self.one_in(2) { WORK_OFF } else { self.one_of(&CODES) };
         let op = match code {
             1 => {
                 let port = self.port();
@@ -155,6 +194,7 @@ impl Random {
             3 => operation(3, self.target_channel(), self.below(2) as u32),
             4 => operation(4, self.target_channel(), self.how_many()),
             6 | 7 => operation(code, 0, self.ticks(board)),
+            WORK_OFF => operation(code, 0, self.stated(owed)),
             8 | 21 => operation(code, 0, 0),
             _ => operation(code, self.target_channel(), 0),
         };
@@ -171,9 +211,16 @@ pub fn run(judge: &mut BoardJudge, operations: u64, seed: u64) {
             true => (random.fresh_board(), 40),
             false => (random.board(), 1 + random.below(8)),
         };
+        if chain < 40 && random.one_in(6) {
+            put_number(&mut board, OWED, random.owed());
+        }
         for _ in 0..chain.min(left) {
             let events = random.events();
             board = judge.ask(&board, &events, random.board_operation(&board, &events)).board;
+            // Not all ticks are worked off: some are forgotten, so that the original is asked more.
+            if random.one_in(4) {
+                put_number(&mut board, OWED, 0);
+            }
         }
         left -= chain.min(left);
     }

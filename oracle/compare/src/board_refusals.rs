@@ -5,7 +5,7 @@ use crate::board_frame::{BoardFrame, ANSWER_ROOM, BOARD_ROOM};
 use crate::board_judge::BoardJudge;
 use crate::board_operations::{allowed, operation, place, show, NAMES};
 use crate::random::Random;
-use original::pit::board::{fresh, Board};
+use original::pit::board::{fresh, Board, LENGTH};
 use original::pit::board_operation::BoardOperation;
 
 const SHORT_BOARD: u32 = 101;
@@ -13,6 +13,8 @@ const UNREADABLE: u32 = 102;
 const BAD_OPERATION: u32 = 103;
 const SHORT_ANSWER: u32 = 104;
 const DIVISOR_ZERO: u32 = 3;
+/// Bytes of a board, as a length that is lent.
+const WHOLE: u8 = LENGTH as u8;
 
 pub fn run(judge: &mut BoardJudge) {
     new_boards(judge);
@@ -43,23 +45,23 @@ fn new_boards(judge: &mut BoardJudge) {
         }
     }
     for model in 0..=255 {
-        new_board(judge, random.board(), 101, model, 12);
+        new_board(judge, random.board(), WHOLE, model, 12);
     }
     for _ in 0..1000 {
-        new_board(judge, random.board(), 101, random.next() as u8 & 1, random.next() as u32);
+        new_board(judge, random.board(), WHOLE, random.next() as u8 & 1, random.next() as u32);
     }
 }
 
 fn new_board(judge: &mut BoardJudge, board: Board, len: u8, model: u8, divisor: u32) {
     let frame = BoardFrame::new(&board, len, model, divisor);
     let what = format!("a new board, {len} bytes of board, model {model}, divisor {divisor}");
-    let reasons = [(len < 101, SHORT_BOARD), (model > 1, BAD_OPERATION), (divisor == 0, DIVISOR_ZERO)];
+    let reasons = [(len < WHOLE, SHORT_BOARD), (model > 1, BAD_OPERATION), (divisor == 0, DIVISOR_ZERO)];
     if let Some((_, status)) = reasons.iter().find(|(holds, _)| *holds) {
         return refused(judge, frame, *status, &what);
     }
     let reply = judge.ours.call(frame);
     judge.made += 1;
-    if reply.status() != 0 || reply.board() != fresh(model, divisor) || reply.lent()[101..] != frame.lent()[101..] {
+    if reply.status() != 0 || reply.board() != fresh(model, divisor) || reply.lent()[LENGTH..] != frame.lent()[LENGTH..] {
         judge.wrong(&format!("{what}: not document 01's fresh board"));
     }
 }
@@ -72,7 +74,7 @@ fn lengths(judge: &mut BoardJudge) {
             let (board, events, op) = (random.board(), random.events(), any_of(&mut random, code));
             let frame = BoardFrame::operation(&board, &events, op);
             let what = format!("{}, {board_len} bytes of board, {answer_len} of answer", show(op));
-            match (board_len < 101, answer_len < 16) {
+            match (board_len < WHOLE, answer_len < 16) {
                 (true, _) => refused(judge, frame.lending(board_len, answer_len), SHORT_BOARD, &what),
                 (false, true) => refused(judge, frame.lending(board_len, answer_len), SHORT_ANSWER, &what),
                 (false, false) => {
@@ -92,16 +94,17 @@ fn lengths(judge: &mut BoardJudge) {
 fn any_of(random: &mut Random, code: u8) -> BoardOperation {
     let target = match code {
         1 | 2 => random.one_of(&[0x40, 0x43, 0x44, 0]),
-        6 | 7 | 8 | 21 => 0,
+        6..=9 | 21 => 0,
         _ => random.one_of(&[0, 1, 2, 3]),
     };
     let number = match code {
         1 | 3 => random.below(2) as u32,
         4 => random.one_of(&[0, 1, 65_537]),
         6 | 7 => random.one_of(&[0, 1, u32::MAX]),
+        9 => random.one_of(&[0, 1, 65_537]),
         _ => 0,
     };
-    BoardOperation { place: random.one_of(&[0, 1, 8, 9, u64::MAX]), ..operation(code, target, number) }
+    BoardOperation { place: random.one_of(&[0, 1, 8, 9, 48, 49, u64::MAX]), ..operation(code, target, number) }
 }
 
 /// Every value above the limit, in every limited place.
@@ -153,8 +156,8 @@ fn order(judge: &mut BoardJudge) {
             let field = random.one_of(&limited);
             field.put(&mut board, 255 - random.below(u64::from(255 - field.field.limit)) as u32);
         }
-        let (board_len, answer_len) = (random.below(101) as u8, random.below(16) as u8);
-        let lent = (if reasons & 1 != 0 { board_len } else { 101 }, if reasons & 8 != 0 { answer_len } else { 16 });
+        let (board_len, answer_len) = (random.below(LENGTH as u64) as u8, random.below(16) as u8);
+        let lent = (if reasons & 1 != 0 { board_len } else { WHOLE }, if reasons & 8 != 0 { answer_len } else { 16 });
         let events = random.events();
         let frame = BoardFrame::operation(&board, &events, op).lending(lent.0, lent.1);
         match due(reasons, allowed(op)) {
@@ -168,7 +171,7 @@ fn order(judge: &mut BoardJudge) {
 fn spoil(op: &mut BoardOperation) {
     match op.code {
         4 => {}
-        6 | 7 => op.target = 1,
+        6 | 7 | 9 => op.target = 1,
         _ => op.number = 256,
     }
 }

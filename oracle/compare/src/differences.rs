@@ -5,9 +5,11 @@ use crate::fields::Field;
 use crate::frame::Frame;
 use crate::operations::operation;
 use crate::ours::Ours;
+use crate::tick_ours;
 use original::pit::operation::{fresh, model, Operation, Oracle};
 use original::pit::record::Record;
 use original::pit::stands;
+use original::pit::ticking::Ticker;
 use std::fs;
 use std::path::Path;
 
@@ -27,11 +29,24 @@ impl Side {
     }
 }
 
+/// What of the original runs.
+#[derive(Clone, Copy, PartialEq)]
+enum Original {
+    /// Its own new channel, reset, and tick in the place of a load cycle.
+    AsItStands,
+    /// Document 01's fresh channel, load cycle and reset.
+    By01,
+    /// The same, and its own tick where ours ticks.
+    OwnTick,
+}
+
 struct Bench<'a> {
     calls: &'a mut Ours,
     oracle: Oracle,
-    /// Whether the original runs as it stands, or on document 01's fresh channel, load cycle and reset.
-    as_it_stands: bool,
+    ticker: Ticker,
+    kind: Original,
+    /// Whether there was a tick: from then on the two may differ.
+    ticked: bool,
     model: u8,
     ours: Side,
     original: Side,
@@ -67,7 +82,8 @@ fn run_file(calls: &mut Ours, path: &Path) -> Result<String, String> {
         bench.nothing_unseen()?;
     } else {
         let (oracle, ours, original) = (Oracle::default(), Side::on(fresh()), Side::on(fresh()));
-        let mut bench = Bench { calls, oracle, as_it_stands: false, model: 0, ours, original };
+        let (ticker, kind) = (Ticker::default(), Original::By01);
+        let mut bench = Bench { calls, oracle, ticker, kind, ticked: false, model: 0, ours, original };
         each_line(&text, |words| bench.line(words))?;
     }
     if !text.lines().any(|line| line.starts_with("expect ")) {
@@ -90,11 +106,11 @@ impl Bench<'_> {
     fn line(&mut self, words: &[&str]) -> Result<(), String> {
         match *words {
             [] => Ok(()),
-            ["original", "as", "it", "stands"] => {
-                self.as_it_stands = true;
-                Ok(())
-            }
-            ["original", "by", "01"] => Ok(()),
+            ["original", "as", "it", "stands"] => self.original_is(Original::AsItStands),
+            ["original", "by", "01"] => self.original_is(Original::By01),
+            ["original", "by", "01", "with", "its", "own", "tick"] => self.original_is(Original::OwnTick),
+            ["tick"] => self.tick(1),
+            ["tick", number] => self.tick(number.parse().map_err(|_| format!("not a number: {number}"))?),
             ["model", name] => {
                 let known = ["8253", "8254"].iter().position(|model| *model == name);
                 self.model = known.ok_or(format!("not a model: {name}"))? as u8;
@@ -112,10 +128,15 @@ impl Bench<'_> {
         }
     }
 
+    fn original_is(&mut self, kind: Original) -> Result<(), String> {
+        self.kind = kind;
+        Ok(())
+    }
+
     fn start_fresh(&mut self) -> Result<(), String> {
         let reply = self.calls.call(Frame::fresh(&[0; 29], 29));
         self.ours = Side::on(reply.record());
-        self.original = Side::on(if self.as_it_stands { stands::fresh(model(self.model)) } else { fresh() });
+        self.original = Side::on(if self.kind == Original::AsItStands { stands::fresh(model(self.model)) } else { fresh() });
         self.agree()
     }
 
@@ -140,9 +161,9 @@ impl Bench<'_> {
 
         let (start, ptype) = (self.original.record, model(self.model));
         let seen = stands::calls_of(&start, op).iter().map(|call| format!("{call:?}")).collect::<Vec<_>>().join(" ");
-        self.original = match (self.as_it_stands, op.code) {
-            (true, 5) => Side::on(stands::tick(&start, ptype)),
-            (true, 8) => Side::on(stands::reset(&start, ptype)),
+        self.original = match (self.kind, op.code) {
+            (Original::AsItStands, 5) => Side::on(stands::tick(&start, ptype)),
+            (Original::AsItStands, 8) => Side::on(stands::reset(&start, ptype)),
             _ => {
                 let outcome = self.oracle.operation(&start, op);
                 if let Some(fault) = outcome.fault {
@@ -154,9 +175,29 @@ impl Bench<'_> {
         self.agree()
     }
 
-    /// On document 01's channel the two sides never differ: the row is then a difference from a sheet.
+    /// Ticks on both sides: ours worked off, the original's own.
+    fn tick(&mut self, ticks: u32) -> Result<(), String> {
+        if self.kind != Original::OwnTick {
+            return Err("a tick, and the original is not by 01 with its own tick".to_string());
+        }
+        self.ours = Side::on(tick_ours::ticked(self.calls, &self.ours.record, self.model, ticks)?);
+        for _ in 0..ticks {
+            let tick = self.ticker.channel(&self.original.record, self.model);
+            match tick.fault {
+                Some(fault) => return Err(fault.to_string()),
+                None => self.original = Side::on(tick.after),
+            }
+        }
+        self.ticked = true;
+        Ok(())
+    }
+
+    /// On document 01's channel the two sides never differ before a tick: the row is then a difference from a sheet.
     fn agree(&self) -> Result<(), String> {
-        if !self.as_it_stands && (self.ours.record, self.ours.answer) != (self.original.record, self.original.answer) {
+        if self.kind != Original::AsItStands
+            && !self.ticked
+            && (self.ours.record, self.ours.answer) != (self.original.record, self.original.answer)
+        {
             return Err("ours and the original differ".to_string());
         }
         Ok(())

@@ -1,7 +1,7 @@
 //! A sample of the original's answers on boards, for tests that have no Rust at hand; freeze.rs has that of channels. Ours is not asked when it is made.
 //!
-//! A case is 251 bytes: the board before (101), how many event bytes are lent (1), eight bytes of which they are the first and the rest 0, the event place (8),
-//! the operation's code (1), target (2) and number (4), the status (1), the board after (101), the eight bytes after (8), and the answer (16), which
+//! A case is 259 bytes: the board before (105), how many event bytes are lent (1), eight bytes of which they are the first and the rest 0, the event place (8),
+//! the operation's code (1), target (2) and number (4), the status (1), the board after (105), the eight bytes after (8), and the answer (16), which
 //! holds 0xA5 where the status is not 0: what the caller put there.
 
 use crate::board_fields::BoardField;
@@ -9,45 +9,58 @@ use crate::board_frame::BoardFrame;
 use crate::board_operations::{operation, NAMES};
 use crate::ours::Ours;
 use crate::random::Random;
-use original::pit::board::{fresh, put_number, Board, DIVISOR, REMAINDER, WARP};
-use original::pit::board_operation::{BoardOperation, BoardOracle, Events};
+use crate::reference::{Reference, WORK_OFF};
+use original::pit::board::{fresh, number_at, put_number, Board, DIVISOR, LENGTH, OWED, REMAINDER, WARP};
+use original::pit::board_operation::{BoardOperation, Events};
 
-pub const CASE: usize = 251;
+/// Places in a case.
+const LENT: usize = LENGTH;
+const EVENTS: usize = LENT + 1;
+const PLACE: usize = EVENTS + EVENT_BYTES;
+const CODE: usize = PLACE + 8;
+const STATUS: usize = CODE + 7;
+const BOARD_AFTER: usize = STATUS + 1;
+const EVENTS_AFTER: usize = BOARD_AFTER + LENGTH;
+const ANSWER: usize = EVENTS_AFTER + EVENT_BYTES;
+const CASE: usize = ANSWER + 16;
+/// The most event bytes of a case.
+const EVENT_BYTES: usize = 8;
 const CASES: usize = 1200;
 const SEED: u64 = 8255;
 
 /// Stands in the answer before a call.
 const OLD_ANSWER: u8 = 0xA5;
 
-/// The most counts that a random case makes; more take time in every gate run. More than may be asked for are refused at once.
-const MOST_COUNTS: u32 = 300;
+/// The most counts or ticks that a random case makes; more take time in every gate run. More than may be asked for are refused at once.
+pub const MOST_COUNTS: u32 = 300;
 const MAY_BE_ASKED: u32 = 65_536;
 
-struct Sample {
-    random: Random,
-    oracle: BoardOracle,
+pub struct Sample {
+    pub random: Random,
+    reference: Reference,
     bytes: Vec<u8>,
 }
 
 impl Sample {
     /// Appends a case and hands back the board after it.
-    fn add(&mut self, board: &Board, events: Events, op: BoardOperation) -> Result<Board, String> {
+    pub fn add(&mut self, board: &Board, events: Events, op: BoardOperation) -> Result<Board, String> {
         let mut events = events;
+        events.len = events.len.min(EVENT_BYTES as u8);
         events.bytes[usize::from(events.len)..].fill(0);
-        let outcome = self.oracle.operation(board, &events, op);
+        let outcome = self.reference.operation(board, &events, op);
         if let Some(fault) = outcome.fault {
             return Err(fault.to_string());
         }
         self.bytes.extend_from_slice(board);
         self.bytes.push(events.len);
-        self.bytes.extend_from_slice(&events.bytes);
+        self.bytes.extend_from_slice(&events.bytes[..EVENT_BYTES]);
         self.bytes.extend_from_slice(&op.place.to_le_bytes());
         self.bytes.push(op.code);
         self.bytes.extend_from_slice(&op.target.to_le_bytes());
         self.bytes.extend_from_slice(&op.number.to_le_bytes());
         self.bytes.push(outcome.status as u8);
         self.bytes.extend_from_slice(&outcome.board);
-        self.bytes.extend_from_slice(&outcome.events.bytes);
+        self.bytes.extend_from_slice(&outcome.events.bytes[..EVENT_BYTES]);
         if outcome.status == 0 {
             self.bytes.extend_from_slice(&outcome.numbers.0.to_le_bytes());
             self.bytes.extend_from_slice(&outcome.numbers.1.to_le_bytes());
@@ -58,13 +71,10 @@ impl Sample {
         Ok(outcome.board)
     }
 
-    fn any_events(&mut self, len: u8) -> Events {
-        Events { bytes: self.random.next().to_le_bytes(), len }
-    }
-
     fn any_operation(&mut self, board: &Board, events: &Events) -> BoardOperation {
         let mut op = self.random.board_operation(board, events);
-        if op.code == 4 && op.number <= MAY_BE_ASKED {
+        let many = op.code == 4 || number_at(board, OWED) > MOST_COUNTS;
+        if many && matches!(op.code, 4 | WORK_OFF) && op.number <= MAY_BE_ASKED {
             op.number = op.number.min(MOST_COUNTS);
         }
         op
@@ -93,7 +103,7 @@ impl Sample {
                 for (name, value) in [("mode:2", 2), ("channel_state:2", 5), ("gate:2", 1), ("output:2", 0)] {
                     BoardField::named(name).expect("a field").put(&mut board, value);
                 }
-                let events = self.any_events(room);
+                let events = self.random.events_of(room);
                 self.add(&board, events, BoardOperation { place, ..operation(code, target, number) })?;
             }
         }
@@ -105,13 +115,13 @@ impl Sample {
         for (code, _) in NAMES {
             let targets: &[u16] = match code {
                 1 | 2 => &[0x40, 0x41, 0x42, 0x43, 0x3F, 0x44, 0x140, 0xFFFF],
-                6 | 7 | 8 | 21 => &[0; 6],
+                6..=9 | 21 => &[0; 6],
                 _ => &[0, 1, 2, 3, 0x100, 0xFFFF],
             };
             for (target, turn) in targets.iter().flat_map(|target| (0..3).map(move |turn| (*target, turn))) {
                 let board = self.random.board();
                 let number = if matches!(code, 1 | 3 | 4) { turn & 1 } else { 0 };
-                let events = self.any_events(4);
+                let events = self.random.events_of(4);
                 self.add(&board, events, operation(code, target, number))?;
             }
         }
@@ -122,7 +132,7 @@ impl Sample {
     fn limits(&mut self) -> Result<(), String> {
         for (channel, number) in [(0, 65_535), (1, 65_536), (2, 65_537), (0, 65_537), (1, u32::MAX), (1, 0), (3, 65_537)] {
             let board = self.random.board();
-            self.add(&board, Events { bytes: [0; 8], len: 0 }, operation(4, channel, number))?;
+            self.add(&board, Events::zeros(0), operation(4, channel, number))?;
         }
         let all = u32::MAX;
         let times = [
@@ -150,7 +160,7 @@ impl Sample {
             for (place, number) in [(DIVISOR, divisor), (REMAINDER, remainder), (WARP, warp)] {
                 put_number(&mut board, place, number);
             }
-            self.add(&board, Events { bytes: [0; 8], len: 1 }, operation(code, 0, ticks))?;
+            self.add(&board, Events::zeros(1), operation(code, 0, ticks))?;
         }
         Ok(())
     }
@@ -168,11 +178,13 @@ impl Sample {
 
 /// The sample's bytes, with the original's answers.
 pub fn answered() -> Result<Vec<u8>, String> {
-    let mut sample = Sample { random: Random(SEED), oracle: BoardOracle::default(), bytes: Vec::new() };
+    let mut sample = Sample { random: Random(SEED), reference: Reference::default(), bytes: Vec::new() };
     sample.chains()?;
     sample.rooms_and_places()?;
     sample.targets()?;
     sample.limits()?;
+    sample.owing()?;
+    sample.ticks()?;
     sample.rest()?;
     Ok(sample.bytes)
 }
@@ -190,21 +202,23 @@ pub fn replay(path: &str) -> Result<u64, String> {
 }
 
 fn agrees(ours: &mut Ours, case: &[u8]) -> bool {
-    let board: Board = case[..101].try_into().expect("101 bytes");
-    let events = Events { bytes: case[102..110].try_into().expect("8 bytes"), len: case[101] };
+    let board: Board = case[..LENGTH].try_into().expect("a board's bytes");
+    let mut events = Events::zeros(case[LENT]);
+    events.bytes[..EVENT_BYTES].copy_from_slice(&case[EVENTS..PLACE]);
     let op = BoardOperation {
-        code: case[118],
-        target: u16::from_le_bytes([case[119], case[120]]),
-        number: u32::from_le_bytes(case[121..125].try_into().expect("4 bytes")),
-        place: u64::from_le_bytes(case[110..118].try_into().expect("8 bytes")),
+        code: case[CODE],
+        target: u16::from_le_bytes([case[CODE + 1], case[CODE + 2]]),
+        number: u32::from_le_bytes(case[CODE + 3..STATUS].try_into().expect("4 bytes")),
+        place: u64::from_le_bytes(case[PLACE..CODE].try_into().expect("8 bytes")),
     };
-    let frame = BoardFrame::operation(&board, &events, op).lending(101, 16);
+    let frame = BoardFrame::operation(&board, &events, op).lending(LENGTH as u8, 16);
     let reply = ours.call(frame);
-    if reply.status() != u32::from(case[125]) || reply.status() != 0 {
-        return reply.status() == u32::from(case[125]) && reply.lent() == frame.lent();
+    if reply.status() != u32::from(case[STATUS]) || reply.status() != 0 {
+        return reply.status() == u32::from(case[STATUS]) && reply.lent() == frame.lent();
     }
     let (first, second, third) = reply.numbers();
     let answer = [&first.to_le_bytes()[..], &second.to_le_bytes()[..], &third.to_le_bytes()[..]].concat();
     let lent = usize::from(events.len);
-    reply.board() == case[126..227] && *reply.events() == case[227..227 + lent] && answer == case[235..] && reply.rest_untouched()
+    let events_after = &case[EVENTS_AFTER..EVENTS_AFTER + lent];
+    reply.board() == case[BOARD_AFTER..EVENTS_AFTER] && reply.events() == events_after && answer == case[ANSWER..] && reply.rest_untouched()
 }

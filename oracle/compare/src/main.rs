@@ -6,6 +6,7 @@ mod board_fields;
 mod board_frame;
 mod board_judge;
 mod board_operations;
+mod board_owed;
 mod board_random;
 mod board_refusals;
 mod differences;
@@ -13,6 +14,7 @@ mod exhaustive;
 mod fields;
 mod frame;
 mod freeze;
+mod freeze_board_ticks;
 mod freeze_boards;
 mod freeze_traces;
 mod judge;
@@ -20,8 +22,17 @@ mod linked;
 mod operations;
 mod ours;
 mod random;
+mod reference;
 mod refusals;
 mod samples;
+mod tick_board;
+mod tick_channel;
+mod tick_exhaustive;
+mod tick_original;
+mod tick_ours;
+mod tick_random;
+mod tick_rules;
+mod tick_waves;
 mod trace_exhaustive;
 mod trace_frame;
 mod trace_judge;
@@ -43,7 +54,7 @@ compare replay-traces FILE  the same on traces
 compare differences         run the inputs of docs/DIFFERENCES.md";
 
 /// Random operations where none are asked for, on channels and as many on boards.
-const OPERATIONS: u64 = 11_000_000;
+const OPERATIONS: u64 = 9_000_000;
 const SEED: u64 = 8253;
 
 fn main() -> ExitCode {

@@ -1,7 +1,8 @@
 //! Traces of one operation with every code, and numbers at the limits of the rules; heads at theirs; and small programs in every mode, whose reads show
-//! what became of the loads and gates.
+//! what became of the loads, gates and ticks.
 
 use crate::random::Random;
+use crate::reference::WORK_OFF;
 use crate::trace_judge::TraceJudge;
 use crate::trace_random::trace_of;
 use crate::trace_reader::Operation;
@@ -18,15 +19,16 @@ pub fn run(judge: &mut TraceJudge) {
     single_operations(judge, &mut random);
     heads(judge, &mut random);
     programs(judge, &mut random);
+    ticking_programs(judge, &mut random);
 }
 
 fn single_operations(judge: &mut TraceJudge, random: &mut Random) {
-    for (code, target) in (1..=8).flat_map(|code| TARGETS.map(|target| (code, target))) {
+    for (code, target) in (1..=9).flat_map(|code| TARGETS.map(|target| (code, target))) {
         for number in NUMBERS {
             judge.ask(&trace_of(random.below(2) as u32, 12, &[operation(code, target, number)]), random);
         }
     }
-    for code in (0..=255).filter(|code| !(1..=8).contains(code)) {
+    for code in (0..=255).filter(|code| !(1..=9).contains(code)) {
         judge.ask(&trace_of(0, 12, &[operation(code, 0, 0)]), random);
         judge.ask(&trace_of(0, 12, &[operation(code, 0x40, 256)]), random);
     }
@@ -44,35 +46,85 @@ fn heads(judge: &mut TraceJudge, random: &mut Random) {
     }
 }
 
-/// On every channel, in every mode and access: a mode set, a load, two gates, load cycles, counts, a latch and reads; each step in all its ways.
+/// On every channel, in every mode and access: a mode set, a load, two gates, load cycles or ticks, counts, a latch and reads; each step in all its ways.
 fn programs(judge: &mut TraceJudge, random: &mut Random) {
     let kinds = (0..3u8).flat_map(|c| (0..6u32).flat_map(move |mode| (1..4u32).map(move |access| (c, mode, access))));
     for (c, mode, access) in kinds {
-        for ways in 0..128 {
+        for ways in 0..256 {
             judge.ask(&trace_of(ways & 1, 1 + ways, &program(c, mode, access, ways)), random);
         }
     }
 }
 
 /// The bits of `ways` say which gates there are, whether the board catches up first, whether the count is latched, the radix, and whether a reset of a low
-/// gate comes before all, which a rising gate shows.
+/// gate comes before all, which a rising gate shows; and whether ticks or load cycles move the count. Ticks that a time call yields are worked off behind it.
 pub fn program(c: u8, mode: u32, access: u32, ways: u32) -> Vec<Operation> {
     let (port, bit) = (0x40 + c, |place: u32| ways >> place & 1);
-    let mut operations = vec![operation(7, 0, 50)];
+    let work_off = operation(WORK_OFF, 0, 65_536);
+    let mut operations = vec![operation(7, 0, 50), work_off];
     if bit(6) == 1 {
         operations.extend([operation(3, c, 0), operation(8, 0, 0)]);
     }
     if bit(1) == 1 {
-        operations.push(operation(6, 0, 20));
+        operations.extend([operation(6, 0, 20), work_off]);
     }
     operations.push(operation(1, 0x43, u32::from(c) << 6 | access << 4 | mode << 1 | bit(2)));
     operations.extend((0..2 - bit(5)).map(|turn| operation(1, port, 0x21 + turn)));
-    operations.extend([operation(3, c, bit(3)), operation(3, c, bit(4)), operation(5, c, 0), operation(5, c, 0), operation(4, c, 3)]);
+    operations.extend([operation(3, c, bit(3)), operation(3, c, bit(4))]);
+    if bit(7) == 1 {
+        operations.extend([operation(7, 0, 90), operation(WORK_OFF, 0, 2), operation(2, port, 0), work_off, work_off, work_off]);
+    } else {
+        operations.extend([operation(5, c, 0), operation(5, c, 0)]);
+    }
+    operations.push(operation(4, c, 3));
     if bit(5) == 1 {
         operations.push(operation(1, 0x43, u32::from(c) << 6));
         operations.push(operation(4, c, 2));
     }
     operations.extend([operation(2, port, 0), operation(2, port, 0), operation(2, port, 0), operation(2, 0x43, 0)]);
-    operations.extend([operation(1, 0x43, u32::from(c) << 6 | 0x30), operation(8, 0, 0), operation(7, 0, 31), operation(2, port, 0)]);
+    operations.extend([
+        operation(1, 0x43, u32::from(c) << 6 | 0x30),
+        operation(8, 0, 0),
+        operation(7, 0, 31),
+        operation(2, port, 0),
+        operation(8, 0, 0),
+    ]);
+    operations
+}
+
+/// In every three modes, with several counts.
+fn ticking_programs(judge: &mut TraceJudge, random: &mut Random) {
+    for modes in 0..6 * 6 * 6 {
+        for _ in 0..6 {
+            judge.ask(&trace_of(random.below(2) as u32, 12, &ticking_program(modes, random)), random);
+        }
+    }
+}
+
+/// Three channels with small counts, two gates that fall and rise, and time between them whose ticks are worked off some at a time, all at once and to the last; with latches and reads. Now and
+/// then a count is written, or something is asked for while ticks are owed.
+pub fn ticking_program(modes: u32, random: &mut Random) -> Vec<Operation> {
+    let mut operations = Vec::new();
+    for c in 0..3 {
+        let mode = modes / 6u32.pow(c) % 6;
+        operations.push(operation(1, 0x43, c << 6 | 0x10 | mode << 1 | u32::from(random.one_in(8))));
+        operations.push(operation(1, 0x40 + c as u8, 1 + random.below(7) as u32));
+    }
+    for turn in 0..5 {
+        let c = random.below(3) as u8;
+        if turn > 0 {
+            operations.push(operation(3, c, turn % 2));
+            operations.push(operation(3, random.below(3) as u8, random.below(2) as u32));
+        }
+        operations.push(operation(7, 0, 12 * (1 + random.below(14) as u32)));
+        operations.push(operation(WORK_OFF, 0, 1 + random.below(5) as u32));
+        operations.extend([operation(2, 0x40 + c, 0), operation(4, c, random.below(8) as u32 / 6), operation(5, c, 0)]);
+        operations.push(operation(1, 0x40 + c, 1 + random.below(7) as u32));
+        operations.extend([operation(WORK_OFF, 0, 65_536); 6]);
+        operations.extend([operation(1, 0x43, u32::from(c) << 6), operation(2, 0x40 + c, 0)]);
+        if random.one_in(3) {
+            operations.push(operation(1, 0x40 + c, 1 + random.below(7) as u32));
+        }
+    }
     operations
 }

@@ -2,22 +2,22 @@
 
 use crate::ours::Ours;
 use crate::random::Random;
+use crate::reference::Reference;
 use crate::trace_frame::TraceFrame;
 use crate::trace_random::trace_of;
 use crate::trace_reader::{Operation, MOST_OPERATIONS};
 use crate::trace_replay::{replay, Replayed};
-use original::pit::board_operation::BoardOracle;
 
 const SHORT_ANSWER: u32 = 104;
 const SHORT_OUT: u32 = 105;
 
 /// Room for a line: the head, each operation, the end.
-const LINE_ROOM: usize = 48;
-const ANSWER_BYTES: usize = 12;
+pub const LINE_ROOM: usize = 64;
+const ANSWER_BYTES: usize = 16;
 const NUMBERS: usize = 16;
 
 pub struct TraceJudge<'a> {
-    pub oracle: BoardOracle,
+    pub reference: Reference,
     ours: &'a mut Ours,
     /// Sound traces and their operations; and damaged ones by the number of their refusal.
     pub sound: u64,
@@ -30,7 +30,7 @@ pub struct TraceJudge<'a> {
 
 impl<'a> TraceJudge<'a> {
     pub fn new(ours: &'a mut Ours) -> Self {
-        Self { oracle: BoardOracle::default(), ours, sound: 0, operations: 0, damaged: [0; 15], refused: 0, differ: 0 }
+        Self { reference: Reference::default(), ours, sound: 0, operations: 0, damaged: [0; 15], refused: 0, differ: 0 }
     }
 
     fn wrong(&mut self, trace: &[u8], what: &str) {
@@ -43,7 +43,7 @@ impl<'a> TraceJudge<'a> {
 
     /// Both functions with as many bytes as they ask for or some more, and then with fewer.
     pub fn ask(&mut self, trace: &[u8], random: &mut Random) {
-        let replayed = replay(&mut self.oracle, trace);
+        let replayed = replay(&mut self.reference, trace);
         if let Some(fault) = replayed.fault {
             self.wrong(trace, fault);
         }
@@ -124,7 +124,7 @@ impl<'a> TraceJudge<'a> {
 
     /// Every length of `out` and of the answer, up to what is needed.
     fn every_length(&mut self, trace: &[u8]) {
-        let replayed = replay(&mut self.oracle, trace);
+        let replayed = replay(&mut self.reference, trace);
         for len in 0..replay_room(&replayed) {
             self.refuses(trace, TraceFrame::replay(trace, len, NUMBERS, 0x5A), SHORT_OUT);
         }
@@ -139,7 +139,7 @@ impl<'a> TraceJudge<'a> {
     }
 }
 
-/// What docs/ENCODING.md asks for: 48 bytes for the head, for each operation and for the end, or 48 in all.
+/// What docs/ENCODING.md asks for: 64 bytes for the head, for each operation and for the end, or 64 in all.
 fn replay_room(replayed: &Replayed) -> usize {
     replayed.answers.as_ref().map_or(LINE_ROOM, |answers| LINE_ROOM * (answers.len() / ANSWER_BYTES + 2))
 }
@@ -186,18 +186,18 @@ pub fn run(judge: &mut TraceJudge, traces: u64, seed: u64) {
     for len in 0..=case_r.len() {
         judge.ask(&case_r[..len], &mut random);
     }
-    if replay(&mut judge.oracle, &case_r).text != CASE_R_PRINTS {
+    if replay(&mut judge.reference, &case_r).text != CASE_R_PRINTS {
         judge.wrong(&case_r, "the original's replay of case R is not document 01's");
     }
     judge.every_length(&case_r);
     judge.every_length(&case_r[..40]);
     for number in [u64::from(MOST_OPERATIONS), u64::from(MOST_OPERATIONS) + 1] {
-        let trace = random.sound_trace(&mut judge.oracle, number);
+        let trace = random.sound_trace(&mut judge.reference, number);
         judge.ask(&trace, &mut random);
     }
     for turn in 0..traces {
         let length = random.trace_length();
-        let mut trace = random.sound_trace(&mut judge.oracle, length);
+        let mut trace = random.sound_trace(&mut judge.reference, length);
         for _ in 0..turn % 3 {
             random.damage(&mut trace);
         }

@@ -1,12 +1,14 @@
 //! Sound traces, and damaged ones.
 
 use crate::random::Random;
+use crate::reference::{Reference, WORK_OFF};
 use crate::trace_reader::{Operation, MOST_OPERATIONS};
-use crate::trace_replay::on_a_board;
+use crate::trace_replay::{lent, on_a_board};
 use original::pit::board::{self, Board};
-use original::pit::board_operation::{BoardOracle, Events};
+use original::pit::board_time::quotient;
 
-const LENT: Events = Events { bytes: [0; 8], len: 2 };
+/// More ticks than this leave a board that a trace does not get out of soon: they are owed seldom.
+const MANY_TICKS: u64 = 3_000;
 
 /// The places of the head's fields, and where the operations begin.
 const SETTINGS: usize = 0;
@@ -48,22 +50,23 @@ impl Random {
     /// An operation for a trace that stands at this board.
     fn trace_operation(&mut self, board: &Board) -> Operation {
         loop {
-            let op = self.board_operation(board, &LENT);
-            if op.code <= 8 {
+            let op = self.board_operation(board, &lent(0));
+            let many = matches!(op.code, 6 | 7) && quotient(board, op.number).is_some_and(|ticks| ticks > MANY_TICKS);
+            if op.code <= WORK_OFF && (!many || self.one_in(512)) {
                 return Operation { code: op.code, target: op.target as u8, number: op.number };
             }
         }
     }
 
     /// A sound trace with so many operations, made while it runs on the original, so that its times are about the board's.
-    pub fn sound_trace(&mut self, oracle: &mut BoardOracle, number: u64) -> Vec<u8> {
+    pub fn sound_trace(&mut self, reference: &mut Reference, number: u64) -> Vec<u8> {
         let mut board = self.fresh_board();
         let (model, divisor) = (board[board::MODEL], board::number_at(&board, board::DIVISOR));
         let focus = self.below(4) as u8;
         let mut operations = Vec::new();
         for _ in 0..number {
             let operation = focused(self.trace_operation(&board), focus);
-            board = oracle.operation(&board, &LENT, on_a_board(operation)).board;
+            board = reference.operation(&board, &lent(operation.code), on_a_board(operation)).board;
             operations.push(operation);
         }
         trace_of(model.into(), divisor, &operations)
@@ -102,8 +105,8 @@ impl Random {
             3 => put(trace, COUNT, self.bad_number(MOST_OPERATIONS + 1)),
             4 => put(trace, COUNT, operations as u32 + 1),
             5 => put(trace, COUNT, operations as u32 - 1),
-            6 => trace[at] = self.one_of(&[0, 9, 10, 16, 17, 128, 255]),
-            7 => trace[at..at + 2].copy_from_slice(&[6 + self.below(3) as u8, 1 << self.below(8)]),
+            6 => trace[at] = self.one_of(&[0, 10, 11, 16, 17, 128, 255]),
+            7 => trace[at..at + 2].copy_from_slice(&[6 + self.below(4) as u8, 1 << self.below(8)]),
             8 => self.damage_number(&mut trace[at..at + 6]),
             _ => self.damage_anywhere(trace),
         }

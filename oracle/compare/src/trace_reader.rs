@@ -1,4 +1,4 @@
-//! Reads a recorded trace. Written from document 01, "Recorded traces", each rule under its sentence, without a look at our own reader.
+//! Reads a recorded trace. Written from document 01, "Recorded traces", and request L1 of document 02, each rule under its sentence, without a look at our own reader.
 
 /// "operations of six bytes: code, target, number"
 #[derive(Clone, Copy, Debug, PartialEq)]
@@ -40,15 +40,15 @@ impl Reader<'_> {
         self.at += 6;
         let operation =
             Operation { code: field[0], target: field[1], number: u32::from_le_bytes([field[2], field[3], field[4], field[5]]) };
-        // "operation code not 1 to 8"
-        if !(1..=8).contains(&operation.code) {
+        // 02: "12 now means not 1 to 9"
+        if !(1..=9).contains(&operation.code) {
             return Err((12, at));
         }
-        // "Target 0 for 6, 7, 8."
+        // "Target 0 for 6, 7, 8." 02: "Trace code 9, target 0"
         if operation.code >= 6 && operation.target != 0 {
             return Err((14, at + 1));
         }
-        // "Number 0 for 2, 5, 8; at most 255 for 1; at most 1 for 3."
+        // "Number 0 for 2, 5, 8; at most 255 for 1; at most 1 for 3." Of 9 document 02 says nothing: one above 65,536 is refused when it is run.
         let most = match operation.code {
             2 | 5 | 8 => 0,
             1 => 255,

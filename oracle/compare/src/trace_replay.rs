@@ -1,11 +1,14 @@
-//! Replays a trace on the original, and says what it does: in the lines of document 01, and in the bytes of docs/ENCODING.md.
+//! Replays a trace on the original, with ticks worked off by docs/TICK.md, and says what it does: in the lines of documents 01 and 02, and in the bytes of docs/ENCODING.md.
 
+use crate::reference::{Reference, WORK_OFF};
 use crate::trace_reader::{read, Fault, Operation, Trace};
 use original::pit::board::{fresh, number_at, REMAINDER};
-use original::pit::board_operation::{BoardOperation, BoardOracle, BoardOutcome, Events};
+use original::pit::board_operation::{BoardOperation, BoardOutcome, Events};
 
-/// "It always lends two event bytes at place 0."
-const LENT: Events = Events { bytes: [0; 8], len: 2 };
+/// "It always lends two event bytes at place 0." 02: code 9 "works ticks off with six event bytes lent".
+pub fn lent(code: u8) -> Events {
+    Events::zeros(if code == WORK_OFF { 6 } else { 2 })
+}
 
 /// What a replay leaves: the text, and the bytes of the answers. A trace that is refused has only a line.
 pub struct Replayed {
@@ -14,23 +17,23 @@ pub struct Replayed {
     pub fault: Option<&'static str>,
 }
 
-pub fn replay(oracle: &mut BoardOracle, bytes: &[u8]) -> Replayed {
+pub fn replay(reference: &mut Reference, bytes: &[u8]) -> Replayed {
     match read(bytes) {
         // "a fault prints only `trace refused N at P`"
         Err((number, place)) => {
             Replayed { text: format!("trace refused {number} at {place}\n"), answers: Err((number, place)), fault: None }
         }
-        Ok(trace) => run(oracle, &trace),
+        Ok(trace) => run(reference, &trace),
     }
 }
 
-fn run(oracle: &mut BoardOracle, trace: &Trace) -> Replayed {
+fn run(reference: &mut Reference, trace: &Trace) -> Replayed {
     let mut board = fresh(trace.model, trace.divisor);
     let (mut answers, mut fault) = (Vec::new(), None);
     let name = if trace.model == 0 { "8253" } else { "8254" };
     let mut text = format!("pit {name} divisor {}\n", trace.divisor);
     for (index, operation) in trace.operations.iter().enumerate() {
-        let outcome = oracle.operation(&board, &LENT, on_a_board(*operation));
+        let outcome = reference.operation(&board, &lent(operation.code), on_a_board(*operation));
         text += &format!("{index} {}\n", said(*operation, &outcome));
         answers.extend_from_slice(&answer(*operation, &outcome));
         fault = fault.or(outcome.fault);
@@ -46,28 +49,40 @@ pub fn on_a_board(operation: Operation) -> BoardOperation {
 }
 
 /// "`refused N`; or `read`, `ticks` and `left`, `out` with an event's two bytes, else `ok`". "A read byte prints as two upper-case hex digits, all other
-/// numbers in decimal."
+/// numbers in decimal." 02: code 9's "line is `made N`, then `out` and two numbers for each event".
 fn said(operation: Operation, outcome: &BoardOutcome) -> String {
-    let first = outcome.numbers.0;
+    let (first, made) = (outcome.numbers.0, outcome.numbers.1);
     match (outcome.status, operation.code) {
         (0, 2) => format!("read {first:02X}"),
         (0, 6 | 7) => format!("ticks {first} left {}", number_at(&outcome.board, REMAINDER)),
-        (0, 1 | 3) if first == 2 => format!("out {} {}", outcome.events.bytes[0], outcome.events.bytes[1]),
+        (0, WORK_OFF) => format!("made {made}{}", outs(outcome)),
+        (0, 1 | 3) if first == 2 => outs(outcome).trim_start().to_string(),
         (0, _) => "ok".to_string(),
         (number, _) => format!("refused {number}"),
     }
 }
 
-/// The twelve bytes of docs/ENCODING.md.
-fn answer(operation: Operation, outcome: &BoardOutcome) -> [u8; 12] {
-    let first = outcome.numbers.0;
-    let mut bytes = [0; 12];
+/// Each event that was written: a space, `out` and its two numbers.
+fn outs(outcome: &BoardOutcome) -> String {
+    let written = &outcome.events.bytes[..outcome.numbers.0 as usize];
+    written.chunks(2).map(|event| format!(" out {} {}", event[0], event[1])).collect()
+}
+
+/// The sixteen bytes of docs/ENCODING.md: refusal, event bytes written, six event bytes, value, remainder.
+fn answer(operation: Operation, outcome: &BoardOutcome) -> [u8; 16] {
+    let (first, made) = (outcome.numbers.0, outcome.numbers.1);
+    let mut bytes = [0; 16];
     bytes[0] = outcome.status as u8;
-    match (outcome.status, operation.code) {
-        (0, 1 | 3) if first == 2 => bytes[1..4].copy_from_slice(&[2, outcome.events.bytes[0], outcome.events.bytes[1]]),
-        (0, 2 | 6 | 7) => bytes[4..8].copy_from_slice(&(first as u32).to_le_bytes()),
-        _ => {}
+    if outcome.status == 0 && matches!(operation.code, 1 | 3 | WORK_OFF) {
+        bytes[1] = first as u8;
+        bytes[2..8].copy_from_slice(&outcome.events.bytes[..6]);
     }
-    bytes[8..].copy_from_slice(&number_at(&outcome.board, REMAINDER).to_le_bytes());
+    let value = match (outcome.status, operation.code) {
+        (0, 2 | 6 | 7) => first as u32,
+        (0, WORK_OFF) => made,
+        _ => 0,
+    };
+    bytes[8..12].copy_from_slice(&value.to_le_bytes());
+    bytes[12..].copy_from_slice(&number_at(&outcome.board, REMAINDER).to_le_bytes());
     bytes
 }

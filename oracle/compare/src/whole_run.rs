@@ -1,15 +1,17 @@
-//! The whole comparison: channels, boards, traces, the differences and the samples; and what it counts.
+//! The whole comparison: channels, ticks, boards, traces, the differences and the samples; and what it counts.
 
 use crate::board_judge::BoardJudge;
 use crate::judge::Judge;
 use crate::ours::Ours;
+use crate::tick_original::TickJudge;
 use crate::trace_judge::TraceJudge;
-use crate::{board_exhaustive, board_operations, board_random, board_refusals, operations, trace_exhaustive, trace_judge};
-use crate::{differences, exhaustive, random, refusals, samples};
+use crate::{board_exhaustive, board_operations, board_owed, board_random, board_refusals, operations, trace_exhaustive, trace_judge};
+use crate::{differences, exhaustive, random, refusals, samples, tick_ours, tick_waves};
 use std::time::Instant;
 
-/// A trace for so many random operations.
+/// A trace, and a tick of a record, for so many random operations.
 const OPERATIONS_A_TRACE: u64 = 500;
+const OPERATIONS_A_TICK: u64 = 10;
 
 /// Operations compared, and how many of them differ.
 struct Compared {
@@ -21,7 +23,13 @@ struct Compared {
 pub fn run(operations: u64, seed: u64) -> Result<bool, String> {
     let started = Instant::now();
     let mut ours = Ours::start()?;
-    let parts = [channels(&mut ours, operations, seed), boards(&mut ours, operations, seed), traces(&mut ours, operations, seed)];
+    let parts = [
+        channels(&mut ours, operations, seed),
+        ticks(operations, seed),
+        ticks_of_ours(&mut ours, operations, seed),
+        boards(&mut ours, operations, seed),
+        traces(&mut ours, operations, seed),
+    ];
     let unlike = differences::run(&mut ours)? + samples::stand()?;
     let compared: u64 = parts.iter().map(|part| part.operations).sum();
     let differ = unlike + parts.iter().map(|part| part.differ).sum::<u64>();
@@ -45,19 +53,48 @@ fn channels(ours: &mut Ours, operations: u64, seed: u64) -> Compared {
     Compared { operations: judge.total(), differ: judge.differ }
 }
 
+/// The rules of the tick, with the rows in which the original departs, against the original.
+fn ticks(operations: u64, seed: u64) -> Compared {
+    let started = Instant::now();
+    let mut judge = TickJudge::default();
+    judge.run(operations / OPERATIONS_A_TICK, seed);
+    let rows: Vec<String> = judge.shown.iter().enumerate().map(|(row, shown)| format!("R{}: {shown}", row + 1)).collect();
+    println!("the original's ticks of a channel, by the rules with R1 to R13: {}", judge.ticks);
+    println!("of {} of these others without one row: {}", judge.shown_of, rows.join(", "));
+    println!("the original's ticks of a board: {} single, {} in runs", judge.board_ticks, judge.run_ticks);
+    let compared = judge.ticks + judge.board_ticks + judge.run_ticks;
+    println!("ticks of the original: {compared}, {} differ ({:.1} s)", judge.differ, started.elapsed().as_secs_f64());
+    Compared { operations: compared, differ: judge.differ }
+}
+
+/// The rules of the tick, and what follows a load, against ours.
+fn ticks_of_ours(ours: &mut Ours, operations: u64, seed: u64) -> Compared {
+    let started = Instant::now();
+    let mut judge = BoardJudge::new(ours);
+    tick_ours::run(&mut judge, operations / OPERATIONS_A_TICK, seed);
+    let seconds = started.elapsed().as_secs_f64();
+    println!("ticks of ours, by the rules: {} in {} calls, {} differ ({seconds:.1} s)", judge.ticks, judge.total(), judge.differ);
+    let (operations, differ) = (judge.total(), judge.differ);
+    let waves = tick_waves::run(ours, seed);
+    println!("what follows a load, by docs/TICK.md: {} counts, {} ticks, {} differ", waves.followed, waves.ticks, waves.differ);
+    Compared { operations: operations + waves.followed, differ: differ + waves.differ }
+}
+
 fn boards(ours: &mut Ours, operations: u64, seed: u64) -> Compared {
     let started = Instant::now();
     let mut judge = BoardJudge::new(ours);
     board_exhaustive::run(&mut judge);
+    board_owed::run(&mut judge);
     board_random::run(&mut judge, operations, seed);
     board_refusals::run(&mut judge);
     for ((_, name), compared) in board_operations::NAMES.iter().zip(judge.compared) {
         println!("board {name}: {compared}");
     }
-    let refusals: Vec<String> = (1..9).map(|number| format!("{number}: {}", judge.refusals[number])).collect();
+    let refusals: Vec<String> =
+        [1, 2, 3, 4, 5, 6, 7, 8, 15, 16].iter().map(|number| format!("{number}: {}", judge.refusals[*number])).collect();
     println!("of these refused with {}", refusals.join(", "));
-    println!("of these with an event: {}", judge.events);
-    let oracle = &judge.oracle;
+    println!("of these with an event: {}; ticks worked off: {}", judge.events, judge.ticks);
+    let oracle = &judge.reference.oracle;
     println!("of the time calls judged by document 01 alone (divisor 0, or a quotient above 2,000,000): {}", oracle.alone);
     println!("of the time calls with a quotient above 3,000, so without the original's catch_up and run: {}", oracle.not_ticked);
     println!("of the time calls with a panic of the original that docs/DIFFERENCES.md lists: {}", oracle.listed);
@@ -78,7 +115,7 @@ fn traces(ours: &mut Ours, operations: u64, seed: u64) -> Compared {
     println!("damaged traces: {} ({})", judge.damaged.iter().sum::<u64>(), damaged.join(", "));
     println!(
         "of their time calls judged by document 01 alone: {}, without catch_up and run: {}",
-        judge.oracle.alone, judge.oracle.not_ticked
+        judge.reference.oracle.alone, judge.reference.oracle.not_ticked
     );
     println!("refused by ours with 104 or 105, or with a damaged trace's number: {}", judge.refused);
     println!("traces: {} operations, {} differ ({:.1} s)", judge.operations, judge.differ, started.elapsed().as_secs_f64());

@@ -1,6 +1,6 @@
 //! Stands for MartyPC's `bus`: the devices that the original calls when an output changes, which here write down the calls, and the types of
-//! its interface to devices. Left out: everything else a bus does. The three devices are always there, and the PPI's inputs are constant: its ticks
-//! ask for them, and on what they do to channel 2's gate nothing is compared but row A21 of docs/DIFFERENCES.md.
+//! its interface to devices. Left out: everything else a bus does. The three devices are always there. The PPI says that the
+//! speaker is on, and that channel 2's gate is high unless it is told otherwise: the timer's tick asks for both (row A21 of docs/DIFFERENCES.md).
 
 use crate::cpu_common::LogicAnalyzer;
 
@@ -58,9 +58,15 @@ impl Dma {
     }
 }
 
-#[derive(Default)]
 pub struct Ppi {
     calls: Calls,
+    channel2_gate: bool,
+}
+
+impl Default for Ppi {
+    fn default() -> Self {
+        Self { calls: Calls::default(), channel2_gate: true }
+    }
 }
 
 impl Ppi {
@@ -73,7 +79,7 @@ impl Ppi {
     }
 
     pub fn get_pit_channel2_gate(&self) -> bool {
-        true
+        self.channel2_gate
     }
 }
 
@@ -93,7 +99,11 @@ impl BusInterface {
     /// A bus that counts its calls and does not keep them.
     pub fn counting() -> Self {
         let calls = || Calls { counted_only: true, ..Calls::default() };
-        Self { pic: Some(Pic { calls: calls() }), dma: Some(Dma { calls: calls() }), ppi: Some(Ppi { calls: calls() }) }
+        Self {
+            pic: Some(Pic { calls: calls() }),
+            dma: Some(Dma { calls: calls() }),
+            ppi: Some(Ppi { calls: calls(), channel2_gate: true }),
+        }
     }
 
     /// How many calls were made, and the last of each device: asked for once a trace, so that none can be left out.
@@ -113,6 +123,11 @@ impl BusInterface {
 
     pub fn ppi_mut(&mut self) -> &mut Option<Ppi> {
         &mut self.ppi
+    }
+
+    /// What the PPI is to say of channel 2's gate.
+    pub fn set_channel2_gate(&mut self, level: bool) {
+        self.ppi.iter_mut().for_each(|device| device.channel2_gate = level);
     }
 
     /// The calls made since they were last forgotten, device by device.

@@ -4,7 +4,9 @@
 include!(env!("PIT_RS_TEXT"));
 
 pub mod added;
+pub mod added_tick;
 pub mod baseline;
+mod baseline_ticks;
 pub mod board;
 pub mod board_operation;
 pub mod board_time;
@@ -14,3 +16,4 @@ pub mod record;
 pub mod remembered;
 pub mod standing_board;
 pub mod stands;
+pub mod ticking;

@@ -1,12 +1,15 @@
 //! What `pit_answers` and `pit_replay` do, made by the original: the same trace in, the same bytes out. ./bench measures this beside ours.
 //!
-//! It stands in the original's own module, so that the compiler can inline the original's functions into the loop. The trace is judged first, as ours is, then run.
+//! It stands in the original's own module, so that the compiler can inline the original's functions into the loop. The trace is judged first, as ours is, then run. A time call
+//! leaves its ticks owed, as document 02 asks, and code 9 works them off (baseline_ticks.rs).
 
 use super::*;
 use crate::lines::Lines;
 
 /// Bytes of an answer: docs/ENCODING.md, "The answers of a trace".
-const ANSWER: usize = 12;
+const ANSWER: usize = 16;
+/// Bytes for a line.
+const LINE: usize = 64;
 
 #[derive(Clone, Copy)]
 struct Op {
@@ -15,12 +18,20 @@ struct Op {
     number: u32,
 }
 
-enum Reply {
+pub(super) enum Reply {
     Refused(u8),
     Done,
     Out(u8, bool),
     Byte(u8),
     Ticks(u32),
+    Worked(Worked),
+}
+
+/// Ticks made, and the event bytes that tell of them.
+pub(super) struct Worked {
+    pub made: u32,
+    pub events: [u8; 6],
+    pub written: usize,
 }
 
 fn long(bytes: &[u8], place: usize) -> u32 {
@@ -39,7 +50,7 @@ fn sound(op: Op) -> bool {
         2 | 5 => op.number == 0,
         3 => op.number <= 1,
         4 => true,
-        6 | 7 => op.target == 0,
+        6 | 7 | 9 => op.target == 0,
         8 => op.target == 0 && op.number == 0,
         _ => false,
     }
@@ -57,8 +68,10 @@ fn judged(trace: &[u8]) -> Option<usize> {
 
 /// The original's timer with its bus, as a host keeps them.
 pub struct Baseline {
-    timer: Pit,
-    bus: BusInterface,
+    pub(super) timer: Pit,
+    pub(super) bus: BusInterface,
+    /// 02: "Timer ticks of a run or catch-up become owed ticks on the board."
+    pub(super) owed: u32,
 }
 
 impl Baseline {
@@ -68,7 +81,7 @@ impl Baseline {
         for (c, channel) in timer.channels.iter_mut().enumerate() {
             *channel = added::fresh(c, ptype);
         }
-        Self { timer, bus: BusInterface::counting() }
+        Self { timer, bus: BusInterface::counting(), owed: 0 }
     }
 
     fn write(&mut self, port: u8, byte: u8) -> Reply {
@@ -78,6 +91,9 @@ impl Baseline {
             0x43 => usize::from(byte >> 6).min(2),
             _ => return Reply::Refused(1),
         };
+        if self.owed > 0 {
+            return Reply::Refused(16);
+        }
         let before = *self.timer.channels[c].output;
         if port == 0x43 {
             self.timer.control_register_write(byte, &mut self.bus);
@@ -100,6 +116,9 @@ impl Baseline {
         if c > 2 {
             return Reply::Refused(2);
         }
+        if self.owed > 0 {
+            return Reply::Refused(16);
+        }
         let before = *self.timer.channels[c].output;
         self.timer.set_channel_gate(c, level, &mut self.bus);
         self.changed(c, before)
@@ -120,6 +139,9 @@ impl Baseline {
     }
 
     fn elapse(&mut self, ticks: u32, catch_up: bool) -> Reply {
+        if self.owed > 0 {
+            return Reply::Refused(16);
+        }
         let DeviceRunTimeUnit::SystemTicks(warp) = self.timer.timewarp else { return Reply::Refused(0) };
         if ticks < warp {
             return Reply::Refused(4);
@@ -135,6 +157,7 @@ impl Baseline {
         } else {
             self.timer.timewarp = DeviceRunTimeUnit::SystemTicks(0);
         }
+        self.owed = yielded;
         Reply::Ticks(yielded)
     }
 
@@ -157,6 +180,8 @@ impl Baseline {
             }
             6 => self.elapse(op.number, true),
             7 => self.elapse(op.number, false),
+            9 => self.work_off(op.number),
+            _ if self.owed > 0 => Reply::Refused(16),
             _ => {
                 self.timer.reset();
                 self.timer.channels.iter_mut().for_each(added::after_reset);
@@ -167,17 +192,27 @@ impl Baseline {
 }
 
 fn answer(reply: &Reply, left: u32, bytes: &mut [u8]) {
+    const NONE: [u8; 7] = [0; 7];
     let (refusal, events, value) = match *reply {
-        Reply::Refused(number) => (number, [0, 0, 0], 0),
-        Reply::Done => (0, [0, 0, 0], 0),
-        Reply::Out(c, level) => (0, [2, c, level.into()], 0),
-        Reply::Byte(byte) => (0, [0, 0, 0], byte.into()),
-        Reply::Ticks(ticks) => (0, [0, 0, 0], ticks),
+        Reply::Refused(number) => (number, NONE, 0),
+        Reply::Done => (0, NONE, 0),
+        Reply::Out(c, level) => (0, [2, c, level.into(), 0, 0, 0, 0], 0),
+        Reply::Byte(byte) => (0, NONE, byte.into()),
+        Reply::Ticks(ticks) => (0, NONE, ticks),
+        Reply::Worked(Worked { made, events: [a, b, c, d, e, f], written }) => (0, [written as u8, a, b, c, d, e, f], made),
     };
     bytes[0] = refusal;
-    bytes[1..4].copy_from_slice(&events);
-    bytes[4..8].copy_from_slice(&value.to_le_bytes());
-    bytes[8..12].copy_from_slice(&left.to_le_bytes());
+    bytes[1..8].copy_from_slice(&events);
+    bytes[8..12].copy_from_slice(&value.to_le_bytes());
+    bytes[12..16].copy_from_slice(&left.to_le_bytes());
+}
+
+fn made<'a, 'b>(lines: &'a mut Lines<'b>, worked: &Worked) -> &'a mut Lines<'b> {
+    lines.text(b" made ").decimal(worked.made);
+    for event in worked.events[..worked.written].chunks_exact(2) {
+        lines.text(b" out ").decimal(event[0].into()).text(b" ").decimal(event[1].into());
+    }
+    lines
 }
 
 fn line(lines: &mut Lines, index: usize, reply: &Reply, left: u32) {
@@ -188,6 +223,7 @@ fn line(lines: &mut Lines, index: usize, reply: &Reply, left: u32) {
         Reply::Out(c, level) => lines.text(b" out ").decimal(c.into()).text(b" ").decimal(level.into()),
         Reply::Byte(byte) => lines.text(b" read ").hex(byte),
         Reply::Ticks(ticks) => lines.text(b" ticks ").decimal(ticks).text(b" left ").decimal(left),
+        Reply::Worked(ref worked) => made(lines, worked),
     };
     lines.text(b"\n");
 }
@@ -195,7 +231,7 @@ fn line(lines: &mut Lines, index: usize, reply: &Reply, left: u32) {
 /// What a replay of a sound trace prints, at the front of `out`, and how many bytes that is.
 pub fn replay(trace: &[u8], out: &mut [u8]) -> Option<usize> {
     let number = judged(trace)?;
-    let mut lines = Lines::new(out.get_mut(..48 * (number + 2))?);
+    let mut lines = Lines::new(out.get_mut(..LINE * (number + 2))?);
     let mut board = Baseline::fresh(trace);
     let model: &[u8] = if long(trace, 8) == 1 { b"8254" } else { b"8253" };
     lines.text(b"pit ").text(model).text(b" divisor ").decimal(long(trace, 4)).text(b"\n");
@@ -216,6 +252,7 @@ pub fn one(board: &mut Baseline, trace: &[u8], index: usize) -> u32 {
         Reply::Out(c, level) => u32::from(c) + u32::from(level),
         Reply::Byte(byte) => byte.into(),
         Reply::Ticks(ticks) => ticks,
+        Reply::Worked(worked) => worked.made + worked.written as u32,
     }
 }
 

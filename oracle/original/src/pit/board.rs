@@ -1,13 +1,16 @@
-//! The original's timer as the 101 bytes of docs/ENCODING.md, in both directions.
+//! The original's timer as the 105 bytes of docs/ENCODING.md, in both directions.
 //!
 //! A load gives the board's model to the timer and to its three channels. What document 01 leaves behind (`pit_cycles`, `chan1_source`, the
-//! speaker, the fraction of the microsecond branch) stays as it is in the timer and is in no dump.
+//! speaker, the fraction of the microsecond branch) stays as it is in the timer and is in no dump. The original owes no ticks: what a dump has there is the caller's.
 
 use super::operation::model;
 use super::record::{self, Record};
 use super::*;
 
-pub type Board = [u8; 101];
+/// Bytes of a board.
+pub const LENGTH: usize = 105;
+
+pub type Board = [u8; LENGTH];
 
 /// The places of what the board itself holds, behind its three records.
 pub const MODEL: usize = 87;
@@ -15,6 +18,7 @@ pub const DIVISOR: usize = 88;
 pub const REMAINDER: usize = 92;
 pub const WARP: usize = 96;
 pub const DEFER: usize = 100;
+pub const OWED: usize = 101;
 
 pub fn load(board: &Board, timer: &mut ProgrammableIntervalTimer) {
     timer.ptype = model(board[MODEL]);
@@ -32,8 +36,8 @@ pub(super) fn load_time(board: &Board, timer: &mut ProgrammableIntervalTimer) {
     timer.defer_reload_flag = board[DEFER] == 1;
 }
 
-pub fn dump(timer: &ProgrammableIntervalTimer) -> Board {
-    let mut board = [0; 101];
+pub fn dump(timer: &ProgrammableIntervalTimer, owed: u32) -> Board {
+    let mut board = [0; LENGTH];
     for c in 0..3 {
         board[29 * c..29 * c + 29].copy_from_slice(&record::dump(&timer.channels[c]));
     }
@@ -42,6 +46,7 @@ pub fn dump(timer: &ProgrammableIntervalTimer) -> Board {
     put_number(&mut board, REMAINDER, timer.sys_tick_accumulator);
     put_number(&mut board, WARP, warp(timer));
     board[DEFER] = timer.defer_reload_flag.into();
+    put_number(&mut board, OWED, owed);
     board
 }
 
@@ -58,9 +63,9 @@ pub(super) fn in_place(timer: &ProgrammableIntervalTimer) -> bool {
     timer.channels.len() == 3 && timer.channels.iter().enumerate().all(|(c, channel)| channel.c == c && channel.ptype == timer.ptype)
 }
 
-/// The fresh board by document 01: "A fresh board has remainder and warp 0 and defer flag false."
+/// The fresh board by document 01: "A fresh board has remainder and warp 0 and defer flag false." It owes no ticks.
 pub fn fresh(model_number: u8, divisor: u32) -> Board {
-    let mut board = [0; 101];
+    let mut board = [0; LENGTH];
     for c in 0..3 {
         board[29 * c..29 * c + 29].copy_from_slice(&record::dump(&added::fresh(c, model(model_number))));
     }

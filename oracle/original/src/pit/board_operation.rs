@@ -1,7 +1,8 @@
 //! One operation on a board of docs/ENCODING.md, made by the original's own functions.
 //!
 //! The original has no event bytes and no refusals. An event is taken from the levels before and after, and the bus calls must be those of that change; a
-//! refusal 1 or 2 stands for a panic, or for the gate call that returns silently; 7 and 8 are document 01's. What a refusal leaves is the start.
+//! refusal 1 or 2 stands for a panic, or for the gate call that returns silently; 7 and 8 are document 01's. What a refusal leaves is the start. Nor has the
+//! original owed ticks: those of a time call are put into the board's bytes, and whoever asks sees to it that an operation which must wait for them is not asked here.
 
 use super::board::{self, number_at, record_of, Board};
 use super::operation::wrong_calls;
@@ -9,7 +10,7 @@ use super::remembered::{Asked, Remembered};
 use super::*;
 
 /// The most event bytes that are ever lent here.
-pub const EVENT_ROOM: usize = 8;
+pub const EVENT_ROOM: usize = 48;
 
 const COMMAND: u16 = PIT_COMMAND_REGISTER;
 const FIRST_DATA: u16 = PIT_CHANNEL_0_DATA_PORT;
@@ -23,6 +24,17 @@ const MOST_COUNTS: u32 = 65_536;
 pub struct Events {
     pub bytes: [u8; EVENT_ROOM],
     pub len: u8,
+}
+
+impl Events {
+    /// So many bytes lent, all 0.
+    pub const fn zeros(len: u8) -> Self {
+        Events { bytes: [0; EVENT_ROOM], len }
+    }
+
+    pub fn lent(&self) -> &[u8] {
+        &self.bytes[..usize::from(self.len)]
+    }
 }
 
 #[derive(Clone, Copy, Debug, PartialEq)]
@@ -91,7 +103,7 @@ impl BoardOracle {
         self.bus.forget_calls();
         self.fault = None;
         let made = self.make(start, op);
-        let after = board::dump(&self.timer);
+        let after = board::dump(&self.timer, owed_after(start, op, &made));
         if !board::in_place(&self.timer) {
             self.blame("a channel's number or model changed");
         }
@@ -151,7 +163,7 @@ impl BoardOracle {
         let mut bus = BusInterface::default();
         self.whole.write_u8(port, byte, Some(&mut bus), DeviceRunTimeUnit::SystemTicks(warp), None);
         self.whole_writes += 1;
-        if board::dump(&self.whole) != board::dump(&self.timer) || !bus.calls().eq(self.bus.calls()) {
+        if board::dump(&self.whole, 0) != board::dump(&self.timer, 0) || !bus.calls().eq(self.bus.calls()) {
             self.blame("write_u8 does otherwise than the function that it calls");
         }
     }
@@ -177,7 +189,7 @@ impl BoardOracle {
             return Ok((0, 0, 0));
         }
         // "In 000 a gate call above channel 2 returns silently; here the same outcome has number 2."
-        if board::dump(&self.timer) != *start || self.bus.calls().next().is_some() {
+        if board::dump(&self.timer, number_at(start, board::OWED)) != *start || self.bus.calls().next().is_some() {
             self.blame("the original's gate above channel 2 does something");
         }
         Err(2)
@@ -249,6 +261,14 @@ impl BoardOracle {
             self.blame(fault);
         }
         (before[27] != now[27]).then_some([named as u8, now[27]])
+    }
+}
+
+/// The ticks that are owed after an operation. 02: "Timer ticks of a run or catch-up become owed ticks on the board."
+fn owed_after(start: &Board, op: BoardOperation, made: &Result<Numbers, u32>) -> u32 {
+    match (op.code, made) {
+        (6 | 7, Ok((yielded, _, _))) => *yielded as u32,
+        _ => number_at(start, board::OWED),
     }
 }
 

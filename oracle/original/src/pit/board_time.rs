@@ -42,7 +42,7 @@ impl BoardOracle {
     fn divided(&mut self, start: &Board, ticks: u32) -> Result<u64, u32> {
         let (unit, warp) = (DeviceRunTimeUnit::SystemTicks(ticks), self.timer.timewarp);
         let made = caught(|| self.timer.ticks_from_time(unit, warp));
-        if made.is_err() && board::dump(&self.timer) != *start {
+        if made.is_err() && board::dump(&self.timer, number_at(start, board::OWED)) != *start {
             self.blame("a panic in ticks_from_time leaves another board");
         }
         match made {

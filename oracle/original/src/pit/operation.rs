@@ -143,20 +143,22 @@ pub(super) fn joined(one: Outcome, other: &Outcome, unlike: &'static str) -> Out
     Outcome { fault: one.fault.or(other.fault).or(if same { None } else { Some(unlike) }), ..one }
 }
 
-/// Whether the calls made are others than those of the change of level between two records.
-pub(super) fn wrong_calls(bus: &BusInterface, c: usize, before: &Record, after: &Record) -> Option<&'static str> {
+pub(super) const WRONG_CALLS: &str = "the original's bus calls are not those of the change of level";
+
+/// The call of the change of level between two records of a channel.
+pub(super) fn due_call(c: usize, before: &Record, after: &Record) -> Option<Call> {
     let (before, after) = (before[27] == 1, after[27] == 1);
-    let due = match (before != after, c, after) {
+    match (before != after, c, after) {
         (false, _, _) => None,
         (true, 0, true) => Some(Call::InterruptRequested(0)),
         (true, 0, false) => Some(Call::InterruptCleared(0)),
         (true, 1, true) => Some(Call::DmaServiceRequested(0)),
         (true, 1, false) => None,
         (true, _, level) => Some(Call::PpiOutputBit(level)),
-    };
-    if bus.calls().eq(due) {
-        None
-    } else {
-        Some("the original's bus calls are not those of the change of level")
     }
+}
+
+/// Whether the calls made are others than those of the change of level between two records.
+pub(super) fn wrong_calls(bus: &BusInterface, c: usize, before: &Record, after: &Record) -> Option<&'static str> {
+    (!bus.calls().eq(due_call(c, before, after))).then_some(WRONG_CALLS)
 }

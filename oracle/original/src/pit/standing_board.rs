@@ -25,7 +25,7 @@ impl StandingBoard {
     /// The board's bytes; nothing where the warp is in microseconds, for which there are none.
     pub fn bytes(&self) -> Option<Board> {
         match self.timer.timewarp {
-            DeviceRunTimeUnit::SystemTicks(_) => Some(board::dump(&self.timer)),
+            DeviceRunTimeUnit::SystemTicks(_) => Some(board::dump(&self.timer, 0)),
             DeviceRunTimeUnit::Microseconds(_) => None,
         }
     }
