@@ -11,11 +11,11 @@ use Rattle.tick.specs.Tick.{tick}
 use Rattle.quiet.specs.Quiet.{quiet}
 use Rattle.owed.specs.Told.{smaller}
 
--- "the least of what is left and the three quiets", and of what is owed
+-- "the least of what is left, what is owed and the three channels' quiet"
 abbrev pub alike : ℕ → ℕ → Channel → Channel → Channel → ℕ
 alike left owed c₀ c₁ c₂ = smaller left (smaller owed (smaller (quiet c₀) (smaller (quiet c₁) (quiet c₂))))
 
--- "if that is 0, make one tick"
+-- "where that is 0 it makes one tick"
 abbrev pub passed : ℕ → ℕ
 passed skipped = cond (eqb skipped 0) 1 skipped
 

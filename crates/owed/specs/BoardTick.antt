@@ -12,7 +12,7 @@ use Rattle.tick.specs.Tick.{tick}
 abbrev pub tickedAt : Board → ℕ → Channel
 tickedAt b n = tick (b .model) (channelAt b n)
 
--- "one tick of channel 0, 1, 2", and one tick fewer is owed
+-- "one tick of channels 0, 1, 2", and one tick fewer is owed
 unfoldable pub boardTick : Board → Board
 boardTick b =
     record {

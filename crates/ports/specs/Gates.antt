@@ -1,4 +1,4 @@
--- Document 01: the gate call, with refusals 2, 16, 7, 8 in this order.
+-- Document 01: the gate call, with refusals 2, 7, 8 in this order, and 16 of 02, L1, right after 2.
 use Prim.Native.Nat.{ℕ}
 use mathlib.Core.Bool.{Bool}
 use mathlib.Core.List.{List}

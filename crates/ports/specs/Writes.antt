@@ -1,4 +1,4 @@
--- Document 01: the port write, with refusals 1, 16, 7, 8 in this order. "a port write itself takes no time".
+-- Document 01: the port write, with refusals 1, 7, 8 in this order, and 16 of 02, L1, right after 1. "a port write itself takes no time".
 use Prim.Native.Nat.{ℕ}
 use mathlib.Core.List.{List}
 use Rattle.channel.specs.declared.ControlWord.{ControlWord}

@@ -92,7 +92,7 @@ quietBy Count c = quietCounting c
 unfoldable pub quiet : Channel → ℕ
 quiet c = quietBy (due c) c
 
--- the channel "after k ticks", for k at most `quiet`
+-- the channel "after k of them", for k at most `quiet`
 abbrev pub skipBy : Kind → ℕ → Channel → Channel
 skipBy Idle ticks c = agedBy ticks c
 skipBy Deferred ticks c = c

@@ -20,7 +20,7 @@ triggered = byMode false true false false false true
 abbrev pub runs : Channel → Bool
 runs c = triggered (c .control .mode) || c .pins .gate
 
--- G0, G2, G3, G4: with the gate low nothing is done
+-- G0, G2, G3, G4: with the gate low a channel that counts does nothing
 abbrev pub whileRunning : Bool → Kind → Kind
 whileRunning running due = cond running due Idle
 

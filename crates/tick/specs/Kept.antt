@@ -1,5 +1,5 @@
--- What every tick of a channel leaves alone: docs/TICK.md, section 1. "It never changes mode, BCD, gate, mask, reload value, latched", nor
--- what it does not even read.
+-- What every tick of a channel leaves alone: docs/TICK.md, "One tick of one channel": "control word, gate, load mask, count register, reload value, latched and a
+-- half-read word stand".
 use mathlib.Core.Path.{_≡_}
 use mathlib.Core.Bool.{true}
 use Rattle.channel.specs.declared.Channel.{Channel}

@@ -8,7 +8,7 @@ use Rattle.tick.specs.declared.due.Kind.{Kind}
 use Rattle.tick.specs.declared.due.Kind.the-variants.{Idle, Deferred, Load, Reload, Count}
 use Rattle.tick.specs.Due.{due}
 
--- M3-8253: "with the output high the first tick after a load takes 1, with the output low 3, all others 2"; M3-8254: "Ticks take 2", and every
+-- M3-8253: "with the output high the first tick after a load takes 1, with the output low 3, all others 2"; M3-8254: "Ticks take 2", and in mode 3 every
 -- element that it loads is even
 abbrev pub squareTakes : Bool → ℕ → ℕ
 squareTakes high e = cond (eqb (e % 2) 0) 2 (cond high 1 3)

@@ -85,7 +85,7 @@ lingersOn Model8254 = true
 abbrev pub lingers : PitType → Channel → Bool
 lingers model c = lingersOn model && (c .pins .output && eqb (c .load .«reload_value» % 2) 1)
 
--- M3: "At zero the output changes and the element is loaded again, in that same tick"
+-- M3-8253: "At zero the output changes and the element is loaded again, in that same tick"
 unfoldable pub halfOver : PitType → Channel → Channel
 halfOver model c = cond (lingers model c) (changeChannelState c (Counting ReloadNextCycle)) (loadAt (not (c .pins .output)) c)
 

@@ -5,7 +5,7 @@ ghost use mathlib.Core.Path.{_≡_};
 ghost use Rattle.tick.specs.Taken.{squareTakes, takes};
 ghost use Rattle.tick.specs.Level.{restLevel, loadLevel, reloadLevel, strobes, countLevel};
 
-// On the 8254 every element that is loaded is even.
+// On the 8254 every element that mode 3 loads is even.
 fn square_takes(output: bool, element: u16) -> u32
     ensures { λ r. ⌜ r ≡ squareTakes output element ⌝ }
 {

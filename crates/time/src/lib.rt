@@ -7,7 +7,7 @@ ghost use Rattle.time.specs.Time.{converted, conversion, passedReply, ti
 // The processor's count: ticks given, the remainder and the warp.
 pub struct SystemTicks(pub u32);
 
-// The chip's count: ticks yielded.
+// The chip's count: ticks yielded, owed and made.
 pub struct TimerTicks(pub u32);
 
 // Timer ticks yielded, and the system ticks that did not make up another one.
