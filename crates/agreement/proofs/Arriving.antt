@@ -1,62 +1,96 @@
 -- M0 to M5: the load comes with the first tick after the write or the trigger; one tick later if the defer flag was set at the write (docs/DIFFERENCES.md,
 -- S1). So the sheets' words of the ticks after a load begin there. Assumes nothing.
 use Prim.Native.Nat.{ℕ}
-use mathlib.Core.Bool.{Bool, true, false, _||_}
+use mathlib.Core.Bool.{Bool, true, false, true≢false, not, _&&_, _||_}
 use mathlib.Core.Path.{_≡_, refl, sym, ap, _∙_}
 use borrow.Author.Tests.{not-true}
+use lib.Bits.{bitAnd}
 use Rattle.channel.specs.declared.Channel.{Channel}
+use Rattle.channel.specs.declared.ChannelState.{ChannelState}
+use Rattle.channel.specs.declared.ChannelState.the-variants.{DeferLoadCycle}
 use Rattle.channel.specs.declared.LoadType.{LoadType}
 use Rattle.channel.specs.declared.LoadType.the-variants.{InitialLoad, SubsequentLoad}
 use Rattle.channel.specs.declared.PitType.{PitType}
 use Rattle.channel.specs.Shared.{changeChannelState, changeOutputState}
-use Rattle.gate.specs.Gate.{waitsForReload, setGate}
-use Rattle.load.specs.Finalize.{waitingState, completeLoad, enterAfter, finalizeLoad}
+use Rattle.load.specs.Cycle.{loadValue}
+use Rattle.load.specs.Finalize.{waitingState, firstState, loadsAgain, completeLoad, enterAfter, finalizeLoad}
 use Rattle.mode.specs.Mode.{loadMask}
 use Rattle.sheet.specs.Ticking.{held}
-use Rattle.tick.specs.declared.due.Kind.the-variants.{Idle, Deferred, Load}
-use Rattle.tick.specs.Due.{triggered, runs, due}
+use Rattle.tick.specs.declared.due.Kind.the-variants.{Deferred, Load}
+use Rattle.tick.specs.Due.{triggered, dueIn, due}
 use Rattle.tick.specs.Tick.{deferred, tick}
 use Rattle.agreement.specs.Ticking.{LoadsNext}
-use Rattle.agreement.specs.Gating.{rise}
-use Rattle.agreement.specs.Arriving.{movesAtOnce, InRegister}
+use Rattle.agreement.specs.Arriving.{movesAtOnce, heedsDefer, ComesFirst, InRegister, WriteDue, WriteMoves, WriteDeferred, DeferredDue, WriteWaits, WriteArrives, DeferredArrives, TriggerArrives}
 use Rattle.agreement.proofs.TickKeeps.{Setting, setting, tick-keeps}
+use Rattle.agreement.proofs.TickLoads.{tick-loads}
 use Rattle.agreement.proofs.GateRise.{afterRise, rise-due, risen}
 
--- the state that such a load enters
-abbrev entered : Channel → Bool → Channel
-entered c defer = changeChannelState (completeLoad c) (waitingState defer)
+-- the state that a load enters which is to move
+abbrev enteredState : LoadType → Channel → Bool → ChannelState
+enteredState InitialLoad c defer = firstState (c .reloading .«reload_on_trigger») defer
+enteredState SubsequentLoad c defer = waitingState defer
 
-enters-in : (t : LoadType) (c : Channel) (defer : Bool) → movesAtOnce t c ≡ true → enterAfter t defer (completeLoad c) ≡ entered c defer
+abbrev entered : Channel → Bool → Channel
+entered c defer = changeChannelState (completeLoad c) (enteredState (c .load .«load_type») c defer)
+
+enters-in : (t : LoadType) (c : Channel) (defer : Bool) → movesAtOnce t c ≡ true
+    → enterAfter t defer (completeLoad c) ≡ changeChannelState (completeLoad c) (enteredState t c defer)
 unfolding completeLoad
-enters-in InitialLoad c defer moves = simp (not-true (c .reloading .«reload_on_trigger») moves)
+enters-in InitialLoad c defer moves = refl
 enters-in SubsequentLoad c defer moves = simp moves
 
 enters : (c : Channel) (defer : Bool) → movesAtOnce (c .load .«load_type») c ≡ true → finalizeLoad c defer ≡ entered c defer
 unfolding finalizeLoad
 enters c defer moves = enters-in (c .load .«load_type») c defer moves
 
--- a deferred tick makes a load due
-deferred-due : (model : PitType) (c : Channel) → due c ≡ Deferred → due (tick model c) ≡ Load
-unfolding tick due deferred changeOutputState changeChannelState
-deferred-due model c put-off = rw put-off refl
-
 -- the first tick after the write
-module _ (c : Channel) (moves : movesAtOnce (c .load .«load_type») c ≡ true) where
-  pub write-due : due (finalizeLoad c false) ≡ Load
-  unfolding due changeChannelState
-  write-due = rw (enters c false moves) refl
+first-due : (waits defer : Bool) (d : Channel) → not (waits && triggered (d .control .mode)) ≡ true → (defer && not waits) ≡ false
+    → dueIn (firstState waits defer) d ≡ Load
+first-due true defer d moves in-time = simp (not-true (triggered (d .control .mode)) moves)
+first-due false true d moves in-time = absurd (true≢false in-time)
+first-due false false d moves in-time = refl
 
-  -- .. or the second
-  pub write-deferred : due (finalizeLoad c true) ≡ Deferred
-  unfolding due changeChannelState
-  write-deferred = rw (enters c true moves) refl
+later-due : (again defer : Bool) (d : Channel) → again ≡ true → (defer && again) ≡ false → dueIn (waitingState defer) d ≡ Load
+later-due again true d moves in-time = absurd (true≢false (sym moves ∙ in-time))
+later-due again false d moves in-time = refl
 
-  pub write-due-then : (model : PitType) → due (tick model (finalizeLoad c true)) ≡ Load
-  write-due-then model = deferred-due model (finalizeLoad c true) write-deferred
+due-first : (t : LoadType) (c d : Channel) (defer : Bool) → d .control ≡ c .control → movesAtOnce t c ≡ true → (defer && heedsDefer t c) ≡ false
+    → dueIn (enteredState t c defer) d ≡ Load
+due-first InitialLoad c d defer same moves in-time = first-due (c .reloading .«reload_on_trigger») defer d (rw same moves) in-time
+due-first SubsequentLoad c d defer same moves in-time = later-due (loadsAgain (c .control .mode)) defer d moves in-time
 
--- M1, M5: "loading waits for the tick after a trigger", where the mode set asked for that; until then the ticks are idle
-pub write-waits : (c : Channel) (defer : Bool) → c .load .«load_type» ≡ InitialLoad → c .reloading .«reload_on_trigger» ≡ true
-    → triggered (c .control .mode) ≡ true → due (finalizeLoad c defer) ≡ Idle
+entered-due : (c : Channel) (defer : Bool) → ComesFirst c defer → due (entered c defer) ≡ Load
+unfolding due changeChannelState completeLoad
+entered-due c defer first = due-first (c .load .«load_type») c (entered c defer) defer refl (first .moves) (first .in-time)
+
+pub write-due : WriteDue
+write-due c defer first = rw (enters c defer (first .moves)) (entered-due c defer first)
+
+-- .. or the second
+deferred-moves : (t : LoadType) (c : Channel) → heedsDefer t c ≡ true → movesAtOnce t c ≡ true
+deferred-moves InitialLoad c heeds = simp (not-true (c .reloading .«reload_on_trigger») heeds)
+deferred-moves SubsequentLoad c heeds = heeds
+
+deferred-state : (t : LoadType) (c : Channel) → heedsDefer t c ≡ true → enteredState t c true ≡ DeferLoadCycle
+deferred-state InitialLoad c heeds = simp (not-true (c .reloading .«reload_on_trigger») heeds)
+deferred-state SubsequentLoad c heeds = refl
+
+entered-deferred : (c : Channel) → heedsDefer (c .load .«load_type») c ≡ true → due (entered c true) ≡ Deferred
+unfolding due changeChannelState
+entered-deferred c heeds = rw (deferred-state (c .load .«load_type») c heeds) refl
+
+pub write-deferred : WriteDeferred
+write-deferred c heeds = rw (enters c true (deferred-moves (c .load .«load_type») c heeds)) (entered-deferred c heeds)
+
+-- a deferred tick makes a load due
+put-off-due : (model : PitType) (c : Channel) → due c ≡ Deferred → due (tick model c) ≡ Load
+unfolding tick due deferred changeOutputState changeChannelState
+put-off-due model c put-off = rw put-off refl
+
+pub deferred-due : DeferredDue
+deferred-due model c heeds = put-off-due model (finalizeLoad c true) (write-deferred c heeds)
+
+pub write-waits : WriteWaits
 unfolding due finalizeLoad completeLoad changeChannelState
 write-waits c defer first waits starts = simp (first, waits, starts)
 
@@ -78,33 +112,36 @@ arrived model c d x gate n same running register is-due =
       at-most = rw (ap (λ (s : Setting). s .control .«bcd_mode») same) (register .at-most);
     }
 
-module _ (model : PitType) (c : Channel) (n : ℕ) (register : InRegister model c (c .load .«count_register») n) (running : runs c ≡ true)
-    (moves : movesAtOnce (c .load .«load_type») c ≡ true) where
-  write-setting : (defer : Bool)
-      → setting (finalizeLoad c defer)
-      ≡ record { control = c .control; reloading = c .reloading; reload = c .load .«count_register»; gate = c .pins .gate }
-  unfolding changeChannelState completeLoad
-  write-setting defer = rw (enters c defer moves) refl
+write-setting : (c : Channel) (defer : Bool) → movesAtOnce (c .load .«load_type») c ≡ true
+    → setting (finalizeLoad c defer)
+    ≡ record { control = c .control; reloading = c .reloading; reload = c .load .«count_register»; gate = c .pins .gate }
+unfolding changeChannelState completeLoad
+write-setting c defer moves = rw (enters c defer moves) refl
 
-  pub write-arrives : LoadsNext model (finalizeLoad c false) n
-  write-arrives = arrived model c (finalizeLoad c false) _ _ n (write-setting false) running register (write-due c moves)
+pub write-moves : WriteMoves
+unfolding loadValue
+write-moves model c defer first may =
+    tick-loads (finalizeLoad c defer) may model (write-due c defer first) .has-value
+    ∙ ap (λ (s : Setting). bitAnd (s .reload) (s .reloading .«load_mask»)) (write-setting c defer (first .moves))
 
-  pub deferred-arrives : LoadsNext model (tick model (finalizeLoad c true)) n
-  deferred-arrives =
-      arrived model c (tick model (finalizeLoad c true)) _ _ n
-      (tick-keeps model (finalizeLoad c true) ∙ write-setting true)
-      running
-      register
-      (write-due-then c moves model)
+pub write-arrives : WriteArrives
+write-arrives model c n register running defer first =
+    arrived model c (finalizeLoad c defer) _ _ n (write-setting c defer (first .moves)) running register (write-due c defer first)
 
--- the first tick after the trigger, in the modes that a rise makes load; there the count waits in the reload value
+pub deferred-arrives : DeferredArrives
+deferred-arrives model c n register running heeds =
+    arrived model c (tick model (finalizeLoad c true)) _ _ n
+    (tick-keeps model (finalizeLoad c true) ∙ write-setting c true (deferred-moves (c .load .«load_type») c heeds))
+    running
+    register
+    (deferred-due model c heeds)
+
+-- the first tick after the trigger
 either-high : (b : Bool) → (b || true) ≡ true
 either-high true = refl
 either-high false = refl
 
-pub trigger-arrives : (model : PitType) (c : Channel) (n : ℕ) → InRegister model c (c .load .«reload_value») n
-    → waitsForReload (c .counter .«channel_state») ≡ false → rise c .loads ≡ true → c .pins .gate ≡ false
-    → LoadsNext model (setGate c true) n
+pub trigger-arrives : TriggerArrives
 unfolding changeChannelState
 trigger-arrives model c n register acts loads was =
     rw (risen c acts loads was)

@@ -18,7 +18,7 @@ use Rattle.sheet.specs.Gate.{fallEffect, riseEffect}
 pub loads-agree : (m : ChannelMode) → loadsOnRise m ≡ riseEffect (modeNumber m) .loads
 loads-agree = every-mode (λ (m : ChannelMode). loadsOnRise m ≡ riseEffect (modeNumber m) .loads) refl refl refl refl refl refl
 
-raises-agree : (m : ChannelMode) → highOnFall m ≡ fallEffect (modeNumber m) .raises
+pub raises-agree : (m : ChannelMode) → highOnFall m ≡ fallEffect (modeNumber m) .raises
 raises-agree = every-mode (λ (m : ChannelMode). highOnFall m ≡ fallEffect (modeNumber m) .raises) refl refl refl refl refl refl
 
 stops-agree : (m : ChannelMode) → (modeNumber m ≡ 0 → ⊥) → stopsOnFall m ≡ fallEffect (modeNumber m) .stops

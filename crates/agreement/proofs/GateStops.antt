@@ -1,6 +1,6 @@
 -- G0, G2, G3, G4: a gate that is low, or goes low, "stops counting": no number of ticks changes the count, the latch or `ticked`. Assumes nothing.
-use Prim.Native.Nat.{ℕ, zero, suc}
-use mathlib.Core.Bool.{Bool, true, false, false≢true, not, _||_}
+use Prim.Native.Nat.{ℕ}
+use mathlib.Core.Bool.{Bool, true, false, false≢true, not, cond}
 use mathlib.Core.Path.{_≡_, refl, sym, ap, _∙_}
 use borrow.Author.Tests.{not-true}
 use Rattle.numbers.specs.Times.{times}
@@ -14,18 +14,19 @@ use Rattle.channel.specs.declared.ReloadFlag.the-variants.{Normal, ReloadNextCy
 use Rattle.channel.specs.Kept.{Kept}
 use Rattle.channel.specs.Modes.{modeNumber}
 use Rattle.channel.specs.Shared.{changeChannelState, changeOutputState}
-use Rattle.channel.proofs.Keeps.{kept-same, kept-then}
+use Rattle.channel.proofs.Keeps.{kept-then}
 use Rattle.channel.proofs.Modes.{every-mode}
 use Rattle.channel.proofs.Pick.{pick-holds}
 use Rattle.gate.specs.Gate.{stopsOnFall, highOnFall, waitsForReload, stopping, edge, setGate}
 use Rattle.gate.proofs.Keeps.{gate-keeps}
 use Rattle.sheet.specs.Gate.{fallEffect}
-use Rattle.tick.specs.declared.due.Kind.the-variants.{Idle}
+use Rattle.tick.specs.declared.due.Kind.the-variants.{Idle, Load}
 use Rattle.tick.specs.Due.{triggered, runs, dueIn, due}
-use Rattle.tick.specs.Tick.{agedBy, idle, tick}
+use Rattle.tick.specs.Taken.{takenBy, taken}
+use Rattle.tick.specs.Tick.{tick}
 use Rattle.agreement.specs.Gating.{underway, low}
 use Rattle.agreement.proofs.Gate.{level-kept}
-use Rattle.agreement.proofs.TickKeeps.{Setting, ticks-keep}
+use Rattle.agreement.proofs.Idling.{ticks-stand}
 
 -- a channel that has a count underway and does not run is idle
 idle-in : (s : ChannelState) (c : Channel) → underway s ≡ true → runs c ≡ false → dueIn s c ≡ Idle
@@ -36,33 +37,6 @@ idle-in WaitingForLoadCycle c going still = absurd (false≢true going)
 idle-in WaitingForLoadTrigger c going still = absurd (false≢true going)
 idle-in (Counting Normal) c going still = simp still
 idle-in (Counting ReloadNextCycle) c going still = simp still
-
-tick-idle : (model : PitType) (c : Channel) → underway (c .counter .«channel_state») ≡ true → runs c ≡ false → tick model c ≡ idle c
-unfolding tick due
-tick-idle model c going still = rw (idle-in (c .counter .«channel_state») c going still) refl
-
-idle-keeps : (c : Channel) → Kept c (idle c)
-unfolding idle agedBy changeOutputState
-idle-keeps c = record { control-kept = refl; latch-kept = refl; element-kept = refl; ticked-kept = refl }
-
-idle-state : (c : Channel) → idle c .counter .«channel_state» ≡ c .counter .«channel_state»
-unfolding idle agedBy changeOutputState
-idle-state c = refl
-
-module _ (model : PitType) (c : Channel) (going : underway (c .counter .«channel_state») ≡ true) (still : runs c ≡ false) where
-  still-after : (j : ℕ) → runs (times j (tick model) c) ≡ false
-  still-after j = ap (λ (s : Setting). triggered (s .control .mode) || s .gate) (ticks-keep j model c) ∙ still
-
-  going-after : (j : ℕ) → underway (times j (tick model) c .counter .«channel_state») ≡ true
-  going-after zero = going
-  going-after (suc j) =
-      rw (tick-idle model (times j (tick model) c) (going-after j) (still-after j), idle-state (times j (tick model) c)) (going-after j)
-
-  ticks-stand : (j : ℕ) → Kept c (times j (tick model) c)
-  ticks-stand zero = kept-same c
-  ticks-stand (suc j) =
-      kept-then (ticks-stand j)
-      (rw (tick-idle model (times j (tick model) c) (going-after j) (still-after j)) (idle-keeps (times j (tick model) c)))
 
 -- a gate that goes low leaves a count underway: it enters no state but the one that holds it
 going-stopped : (c : Channel) → underway (c .counter .«channel_state») ≡ true → underway (stopping c .counter .«channel_state») ≡ true
@@ -97,12 +71,36 @@ going-low c going =
 pub stops-level : (m : ChannelMode) → fallEffect (modeNumber m) .stops ≡ not (triggered m)
 stops-level = every-mode (λ (m : ChannelMode). fallEffect (modeNumber m) .stops ≡ not (triggered m)) refl refl refl refl refl refl
 
-still-low : (c : Channel) → low c .stops ≡ true → runs (setGate c false) ≡ false
-still-low c stops =
-    let level : triggered (c .control .mode) ≡ false = not-true _ (sym (stops-level (c .control .mode)) ∙ stops) in
-    rw (ap (λ (w : ControlWord). w .mode) (gate-keeps c false .control-kept), level) (level-kept c false)
+of-waiting : (b : Bool) (c : Channel) → takenBy (cond b Idle Load) c ≡ 0
+of-waiting true c = refl
+of-waiting false c = refl
+
+-- so a channel in such a mode does not run while the gate is low ..
+still : (c : Channel) → low c .stops ≡ true → c .pins .gate ≡ false → runs c ≡ false
+still c stops level = simp (not-true (triggered (c .control .mode)) (sym (stops-level (c .control .mode)) ∙ stops), level)
+
+-- .. and its count takes nothing, in whatever state
+taken-in : (s : ChannelState) (c : Channel) → runs c ≡ false → takenBy (dueIn s c) c ≡ 0
+taken-in WaitingForReload c none = refl
+taken-in WaitingForGate c none = simp none
+taken-in DeferLoadCycle c none = refl
+taken-in WaitingForLoadCycle c none = refl
+taken-in WaitingForLoadTrigger c none = of-waiting (triggered (c .control .mode)) c
+taken-in (Counting Normal) c none = simp none
+taken-in (Counting ReloadNextCycle) c none = simp none
+
+pub low-takes-nothing : (c : Channel) → low c .stops ≡ true → c .pins .gate ≡ false → taken c ≡ 0
+unfolding taken due
+low-takes-nothing c stops level = taken-in (c .counter .«channel_state») c (still c stops level)
+
+-- a gate that goes low, or is low, leaves a count underway idle
+pub idle-low : (c : Channel) → low c .stops ≡ true → underway (c .counter .«channel_state») ≡ true → due (setGate c false) ≡ Idle
+unfolding due
+idle-low c stops going =
+    let same : setGate c false .control .mode ≡ c .control .mode = ap (λ (w : ControlWord). w .mode) (gate-keeps c false .control-kept) in
+    idle-in (setGate c false .counter .«channel_state») (setGate c false) (going-low c going)
+    (still (setGate c false) (rw same stops) (level-kept c false))
 
 pub low-stops : (model : PitType) (c : Channel) → low c .stops ≡ true → underway (c .counter .«channel_state») ≡ true
     → (j : ℕ) → Kept c (times j (tick model) (setGate c false))
-low-stops model c stops going j =
-    kept-then (gate-keeps c false) (ticks-stand model (setGate c false) (going-low c going) (still-low c stops) j)
+low-stops model c stops going j = kept-then (gate-keeps c false) (ticks-stand model (setGate c false) (idle-low c stops going) j)

@@ -24,9 +24,12 @@ pub mod Strobe
 pub mod Rate
 pub mod TicksAgree
 pub mod LevelUnseen
+pub mod Idling
 pub mod GateStops
+pub mod GateOutput
 pub mod GateNothing
 pub mod GateRise
 pub mod GateHigh
 pub mod GateTicks
+pub mod Waiting
 pub mod Arriving

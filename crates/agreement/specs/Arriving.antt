@@ -1,20 +1,39 @@
--- When a count arrives that was written: "the load comes with the first tick after the write or the trigger".
+-- When a count arrives that was written: "the load comes with the first tick after the write or the trigger", one tick later if the board's defer flag was set at
+-- the write (docs/DIFFERENCES.md, S1). The sheets' words of the ticks after a load (specs/Ticking.antt) begin there. Lines M0 to M5 of docs/SHEETS.md.
 use Prim.Native.Nat.{ℕ, _≤_}
-use mathlib.Core.Bool.{Bool, not}
+use mathlib.Core.Bool.{Bool, true, false, not, _&&_}
 use mathlib.Core.Path.{_≡_}
+use lib.Bits.{bitAnd}
 use Rattle.channel.specs.declared.Channel.{Channel}
 use Rattle.channel.specs.declared.LoadType.{LoadType}
 use Rattle.channel.specs.declared.LoadType.the-variants.{InitialLoad, SubsequentLoad}
 use Rattle.channel.specs.declared.PitType.{PitType}
 use Rattle.channel.specs.Modes.{modeNumber}
-use Rattle.load.specs.Finalize.{loadsAgain}
+use Rattle.gate.specs.Gate.{waitsForReload, setGate}
+use Rattle.load.specs.Finalize.{loadsAgain, finalizeLoad}
 use Rattle.mode.specs.Mode.{loadMask}
+use Rattle.tick.specs.declared.due.Kind.the-variants.{Idle, Deferred, Load}
+use Rattle.tick.specs.Due.{triggered, runs, due}
+use Rattle.tick.specs.Tick.{neverLoaded, tick}
 use Rattle.sheet.specs.Ticking.{values, held, smallest}
+use Rattle.agreement.specs.Ticking.{LoadsNext}
+use Rattle.agreement.specs.Gating.{rise}
 
--- a complete load that the ticks are to move at once: a first one that waits for no trigger, a later one in modes 0 and 4
+-- a complete load that the ticks are to move at once: a first one, unless it waits for a trigger in a mode that has one (mode 4 after mode 1 has none: docs/TICK.md,
+-- T4); a later one in modes 0 and 4
 abbrev pub movesAtOnce : LoadType → Channel → Bool
-movesAtOnce InitialLoad c = not (c .reloading .«reload_on_trigger»)
+movesAtOnce InitialLoad c = not (c .reloading .«reload_on_trigger» && triggered (c .control .mode))
 movesAtOnce SubsequentLoad c = loadsAgain (c .control .mode)
+
+-- one that a set defer flag puts off by a tick: those, but none that document 01 sends to wait for a trigger, as it does in mode 4 after mode 1
+abbrev pub heedsDefer : LoadType → Channel → Bool
+heedsDefer InitialLoad c = not (c .reloading .«reload_on_trigger»)
+heedsDefer SubsequentLoad c = loadsAgain (c .control .mode)
+
+-- a load that comes with the first tick, the defer flag as given
+pub record ComesFirst (c : Channel) (defer : Bool) : Type 0 where
+  pub moves : movesAtOnce (c .load .«load_type») c ≡ true
+  pub in-time : (defer && heedsDefer (c .load .«load_type») c) ≡ false
 
 -- the count n as it was written, in a register of the channel; in range, and with the mask of its mode
 pub record InRegister (model : PitType) (c : Channel) (register n : ℕ) : Type 0 where
@@ -22,3 +41,39 @@ pub record InRegister (model : PitType) (c : Channel) (register n : ℕ) : Type 
   pub mask : c .reloading .«load_mask» ≡ loadMask model 0xFFFF (c .control .mode)
   pub at-least : smallest (modeNumber (c .control .mode)) ≤ n
   pub at-most : n ≤ values (c .control .«bcd_mode»)
+
+-- M0, M2, M3, M4: "the tick after a completed load loads". No gate is asked for here. M0-8254: "A count written with the gate low is still loaded by the next tick"
+abbrev pub WriteDue : Type 0
+WriteDue = (c : Channel) (defer : Bool) → ComesFirst c defer → due (finalizeLoad c defer) ≡ Load
+
+abbrev pub WriteMoves : Type 0
+WriteMoves = (model : PitType) (c : Channel) (defer : Bool) → ComesFirst c defer → neverLoaded (finalizeLoad c defer) ≡ false
+    → tick model (finalizeLoad c defer) .counter .«counting_element» ≡ bitAnd (c .load .«count_register») (c .reloading .«load_mask»)
+
+-- the first tick after a write with the defer flag set only puts the load off, to the second
+abbrev pub WriteDeferred : Type 0
+WriteDeferred = (c : Channel) → heedsDefer (c .load .«load_type») c ≡ true → due (finalizeLoad c true) ≡ Deferred
+
+abbrev pub DeferredDue : Type 0
+DeferredDue = (model : PitType) (c : Channel) → heedsDefer (c .load .«load_type») c ≡ true → due (tick model (finalizeLoad c true)) ≡ Load
+
+-- M1, M5: "loading waits for the tick after a trigger", where the mode set asked for that; until then the ticks are idle
+abbrev pub WriteWaits : Type 0
+WriteWaits = (c : Channel) (defer : Bool) → c .load .«load_type» ≡ InitialLoad → c .reloading .«reload_on_trigger» ≡ true
+    → triggered (c .control .mode) ≡ true → due (finalizeLoad c defer) ≡ Idle
+
+-- what the sheets say of the ticks after a load begins with the first tick after the write, in a channel that runs ..
+abbrev pub WriteArrives : Type 0
+WriteArrives = (model : PitType) (c : Channel) (n : ℕ) → InRegister model c (c .load .«count_register») n → runs c ≡ true
+    → (defer : Bool) → ComesFirst c defer → LoadsNext model (finalizeLoad c defer) n
+
+-- .. or with the second ..
+abbrev pub DeferredArrives : Type 0
+DeferredArrives = (model : PitType) (c : Channel) (n : ℕ) → InRegister model c (c .load .«count_register») n → runs c ≡ true
+    → heedsDefer (c .load .«load_type») c ≡ true → LoadsNext model (tick model (finalizeLoad c true)) n
+
+-- .. or with the first after a trigger, in the modes that a rising gate makes load (G1, G2, G3, G5); there the count waits in the reload value
+abbrev pub TriggerArrives : Type 0
+TriggerArrives = (model : PitType) (c : Channel) (n : ℕ) → InRegister model c (c .load .«reload_value») n
+    → waitsForReload (c .counter .«channel_state») ≡ false → rise c .loads ≡ true → c .pins .gate ≡ false
+    → LoadsNext model (setGate c true) n

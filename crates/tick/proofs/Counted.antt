@@ -19,6 +19,7 @@ use Rattle.tick.specs.Taken.{takes, takenBy, taken}
 use Rattle.tick.specs.Tick.{agedBy, idle, deferred, neverLoaded, sentBack, withArmed, loaded, loadAt, endsHalf, lingers, halfOver, countingOn, marked, afterCounts, tickBy, tick}
 use Rattle.tick.specs.Loads.{loadsAfter, loadIsDue, loads}
 use Rattle.tick.specs.Kept.{TickKeeps}
+use Rattle.tick.specs.Laws.{CountedExactly}
 use Rattle.tick.proofs.Keeps.{counts-keep}
 
 kept-aged : (c : Channel) → Kept c (agedBy 1 c)
@@ -80,7 +81,7 @@ counted-by Reload model c h = kept-unloaded _ c (not-false _ h)
 counted-by Count model c h =
     kept-after model (times (takes c) count c) (rw (never-kept (counts-keep (takes c) c)) h)
 
-pub counted-exactly : (model : PitType) (c : Channel) → loads model c ≡ false → Kept (times (taken c) count c) (tick model c)
+pub counted-exactly : CountedExactly
 unfolding loads taken tick
 counted-exactly model c h = counted-by (due c) model c h
 

@@ -21,6 +21,7 @@ use Rattle.tick.specs.Taken.{takes}
 use Rattle.tick.specs.Level.{loadLevel, reloadLevel}
 use Rattle.tick.specs.Tick.{agedBy, rested, idle, deferred, neverLoaded, sentBack, withArmed, loaded, loadAt, endsHalf, lingers, halfOver, countingOn, marked, afterCounts, tickBy, tick}
 use Rattle.tick.specs.Kept.{TickKeeps}
+use Rattle.tick.specs.Laws.{TicksKeep}
 
 pub keeps-then : {c d e : Channel} → TickKeeps c d → TickKeeps d e → TickKeeps c e
 keeps-then p q =
@@ -158,7 +159,7 @@ keeps-by Load model c = keeps-load (loadLevel (c .control .mode)) c
 keeps-by Reload model c = keeps-load (reloadLevel (c .control .mode) (c .pins .output)) c
 keeps-by Count model c = keeps-then (counts-keep (takes c) c) (keeps-after model (times (takes c) count c))
 
-pub tick-keeps : (model : PitType) (c : Channel) → TickKeeps c (tick model c)
+pub tick-keeps : TicksKeep
 unfolding tick
 tick-keeps model c = keeps-by (due c) model c
 

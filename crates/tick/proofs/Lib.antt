@@ -3,3 +3,4 @@
 pub mod Keeps
 pub mod Counted
 pub mod Loaded
+pub mod One

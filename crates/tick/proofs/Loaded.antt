@@ -15,6 +15,7 @@ use Rattle.tick.specs.Taken.{takes}
 use Rattle.tick.specs.Tick.{neverLoaded, withArmed, loaded, loadAt, endsHalf, lingers, halfOver, afterCounts, tickBy, tick}
 use Rattle.tick.specs.Loads.{loadsAfter, loadIsDue, loads}
 use Rattle.tick.specs.Kept.{TickKeeps}
+use Rattle.tick.specs.Laws.{LoadMoves}
 use Rattle.tick.proofs.Keeps.{counts-keep}
 use Rattle.tick.proofs.Counted.{never-kept}
 
@@ -61,7 +62,7 @@ moved-by Count model c h may =
     let kept = counts-keep (takes c) c in
     after-element model (times (takes c) count c) h (never-kept kept ∙ may) ∙ value-kept kept
 
-pub load-moves : (model : PitType) (c : Channel) → loads model c ≡ true → tick model c .counter .«counting_element» ≡ loadValue c
+pub load-moves : LoadMoves
 unfolding loads tick
 load-moves model c h =
     let falls = loadIsDue (due c) model c in

@@ -4,3 +4,5 @@ pub mod Level
 pub mod Tick
 pub mod Loads
 pub mod Kept
+pub mod Laws
+pub mod One

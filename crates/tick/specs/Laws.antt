@@ -1,0 +1,25 @@
+-- What is proved of every tick: docs/TICK.md, section 1 and "Demand 3 with ticks".
+use mathlib.Core.Path.{_≡_}
+use mathlib.Core.Bool.{true, false}
+use Rattle.numbers.specs.Times.{times}
+use Rattle.channel.specs.declared.Channel.{Channel}
+use Rattle.channel.specs.declared.PitType.{PitType}
+use Rattle.channel.specs.Kept.{Kept}
+use Rattle.count.specs.Count.{count}
+use Rattle.load.specs.Cycle.{loadValue}
+use Rattle.tick.specs.Taken.{taken}
+use Rattle.tick.specs.Tick.{tick}
+use Rattle.tick.specs.Loads.{loads}
+use Rattle.tick.specs.Kept.{TickKeeps}
+
+-- "It never changes mode, BCD, gate, mask, reload value, latched"
+abbrev pub TicksKeep : Type 0
+TicksKeep = (model : PitType) (c : Channel) → TickKeeps c (tick model c)
+
+-- "A tick that does not load leaves element, output latch and ticked as its counts do"
+abbrev pub CountedExactly : Type 0
+CountedExactly = (model : PitType) (c : Channel) → loads model c ≡ false → Kept (times (taken c) count c) (tick model c)
+
+-- one that loads leaves in the element the value that document 01's load cycle moves
+abbrev pub LoadMoves : Type 0
+LoadMoves = (model : PitType) (c : Channel) → loads model c ≡ true → tick model c .counter .«counting_element» ≡ loadValue c
