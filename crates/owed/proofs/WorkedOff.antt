@@ -19,7 +19,7 @@ use Rattle.board.specs.declared.Board.{Board}
 use Rattle.board.specs.Outcome.{Value, worked, Outcome, refuse}
 use Rattle.owed.specs.BoardTick.{boardTick}
 use Rattle.owed.specs.Worked.{Room, needed, putAll, Work, oneMore, full, workOn, begun, report, workOff}
-use Rattle.owed.specs.Told.{tickBytes, allBytes, smaller, Enough, WorkedOff}
+use Rattle.owed.specs.Told.{tickBytes, allBytes, smaller, Enough, WorksOff, MakesNone, RefusedLeaves}
 use Rattle.owed.proofs.Tells.{between, tick-size, all-behind, one-tick-more}
 use Rattle.owed.proofs.Working.{accepted-is}
 
@@ -129,8 +129,7 @@ module _ (b : Board) (events : List ℕ) (place : ℕ) (inside : place ≤ lengt
       by-tests stated left w t all (workOn left (oneMore w)) (eqb (w .board .owed .0) 0) (full w) refl refl
       (λ some fits. ended stated left (oneMore w) (goes-on w t some fits) (omega arith))
 
-pub worked-off : (b : Board) (stated : ℕ) (events : List ℕ) (place : ℕ) → place ≤ length events → stated ≤ 65536
-    → WorkedOff b stated events place (workOff b stated events place)
+pub worked-off : WorksOff
 worked-off b stated events place inside few =
     let w = workOn stated (begun b events place) in
     let e = ended b events place inside stated stated (begun b events place) (begins b events place inside) (omega arith) in
@@ -152,12 +151,10 @@ stays : (left : ℕ) (w : Work) → (left ≡ 0) ⊎ (w .board .owed .0 ≡ 0) �
 stays zero w none = refl
 stays (suc left) w none = ⊎-elim (λ (z : suc left ≡ 0). absurd (omega arith)) (λ (z : w .board .owed .0 ≡ 0). simp (eq-eqb _ _ z)) none
 
--- "0 stated or 0 owed: made 0", and nothing changes
-pub made-none : (b : Board) (stated : ℕ) (events : List ℕ) (place : ℕ) → place ≤ length events → stated ≤ 65536 → (stated ≡ 0) ⊎ (b .owed .0 ≡ 0)
-    → workOff b stated events place ≡ record { reply = accepted (worked 0 place); board = b; events = events }
+pub made-none : MakesNone
 made-none b stated events place inside few none = accepted-is b stated events place inside few ∙ ap report (stays stated (begun b events place) none)
 
--- "Each returns its number and the same board; no lent byte changes."
+-- a refusal is one of the two
 module _ (b : Board) (events : List ℕ) (made place number : ℕ) (after : Outcome) (took : after .reply ≡ accepted (worked made place)) where
   refused-by : (past many : Bool) → cond past (refuse 7 b events) (cond many (refuse 15 b events) after) .reply ≡ refused number
       → cond past (refuse 7 b events) (cond many (refuse 15 b events) after) ≡ refuse number b events
@@ -165,8 +162,7 @@ module _ (b : Board) (events : List ℕ) (made place number : ℕ) (after : Outc
   refused-by false true is = ap (λ (r : Reply Value). record { reply = r; board = b; events = events }) is
   refused-by false false is = absurd (not-refused (worked made place) number (sym took ∙ is))
 
-pub refused-leaves : (b : Board) (stated : ℕ) (events : List ℕ) (place number : ℕ) → workOff b stated events place .reply ≡ refused number
-    → workOff b stated events place ≡ refuse number b events
+pub refused-leaves : RefusedLeaves
 unfolding workOff
 refused-leaves b stated events place number is =
     refused-by b events _ _ number (report (workOn stated (begun b events place))) refl (ltb (length events) place) (ltb 65536 stated) is

@@ -8,12 +8,13 @@ use lib.Dec.{ltb}
 use lib.ListN.{length, take, drop}
 use Rattle.numbers.specs.Flags.{flagNumber}
 use Rattle.numbers.specs.Times.{times}
-use Rattle.refusal.specs.Reply.{accepted}
+use Rattle.refusal.specs.Reply.{refused, accepted}
 use Rattle.event.specs.declared.Event.{Event}
 use Rattle.event.specs.declared.Event.the-variants.{Unchanged, Level}
 use Rattle.board.specs.declared.Board.{Board}
-use Rattle.board.specs.Outcome.{Outcome, worked}
+use Rattle.board.specs.Outcome.{Outcome, worked, refuse}
 use Rattle.owed.specs.BoardTick.{boardTick, tickEvent}
+use Rattle.owed.specs.Worked.{workOff}
 
 -- "two bytes, the channel's place on the board (0 to 2) then level (0 or 1)"
 abbrev pub eventBytes : Event → List ℕ
@@ -48,3 +49,18 @@ pub record WorkedOff (b : Board) (stated : ℕ) (events : List ℕ) (place : ℕ
   pub new-place : new ≡ place + length (allBytes made b)
   pub in-room : new ≤ length events
   pub told : outcome .events ≡ take place events ++ allBytes made b ++ drop new events
+
+-- every call that neither refusal hits: the place lies in the event bytes (7), at most 65,536 ticks are stated (15)
+abbrev pub WorksOff : Type 0
+WorksOff = (b : Board) (stated : ℕ) (events : List ℕ) (place : ℕ) → place ≤ length events → stated ≤ 65536
+    → WorkedOff b stated events place (workOff b stated events place)
+
+-- "Nothing stated or nothing owed: none made, and that is accepted"; nothing changes
+abbrev pub MakesNone : Type 0
+MakesNone = (b : Board) (stated : ℕ) (events : List ℕ) (place : ℕ) → place ≤ length events → stated ≤ 65536 → (stated ≡ 0) ⊎ (b .owed .0 ≡ 0)
+    → workOff b stated events place ≡ record { reply = accepted (worked 0 place); board = b; events = events }
+
+-- "Each returns its number and the same board; no lent byte changes."
+abbrev pub RefusedLeaves : Type 0
+RefusedLeaves = (b : Board) (stated : ℕ) (events : List ℕ) (place number : ℕ) → workOff b stated events place .reply ≡ refused number
+    → workOff b stated events place ≡ refuse number b events

@@ -2,11 +2,13 @@
 use Prim.Native.Nat.{ℕ, _+_}
 use mathlib.Core.Bool.{Bool, true, false}
 use mathlib.Core.List.{List, [], _∷_}
+use mathlib.Core.Path.{_≡_}
 use Rattle.refusal.specs.Reply.{Reply, refused, accepted}
 use Rattle.board.specs.declared.Board.{Board}
 use Rattle.board.specs.Outcome.{Value, done, newPlace, byte, ticks, outputState, channelCount, retriggers, dirtyMarks, timerAccum, worked}
 use Rattle.step.specs.Operation.{Operation, WritePort, ReadPort, SetChannelGate, Counts, LoadCycle, CatchUp, Run, Reset, GetOutputState, GetChannelCount, DoesChannelRetrigger, IsDirty, GetTimerAccum, WorkOff}
-use Rattle.step.specs.Step.{step}
+use Rattle.step.specs.Step.{step, steps}
+use Rattle.step.specs.Time.{yielded, allYielded}
 
 -- ticks made, in what an accepted call says
 abbrev pub madeIn : Value → ℕ
@@ -47,3 +49,15 @@ changesOwed (DoesChannelRetrigger channel) = false
 changesOwed (IsDirty channel) = false
 changesOwed GetTimerAccum = false
 changesOwed (WorkOff stated events place) = true
+
+-- every operation, a refused one too: what is owed after it and what it made is what was owed before it and what it yielded
+abbrev pub OwedKept : Type 0
+OwedKept = (b : Board) (o : Operation) → step b o .board .owed .0 + madeBy (step b o .reply) ≡ b .owed .0 + yielded (step b o .reply)
+
+-- .. so over every list of operations
+abbrev pub OwedInAll : Type 0
+OwedInAll = (b : Board) (os : List Operation) → steps b os .owed .0 + allMade b os ≡ b .owed .0 + allYielded b os
+
+-- no other operation changes the number owed
+abbrev pub OwedOnly : Type 0
+OwedOnly = (b : Board) (o : Operation) → changesOwed o ≡ false → step b o .board .owed ≡ b .owed
