@@ -14,17 +14,17 @@ use Rattle.channel.proofs.Modes.{every-mode}
 use Rattle.mode.specs.Mode.{outputAfter, setMode}
 use Rattle.tick.specs.declared.due.Kind.the-variants.{Idle, Deferred}
 use Rattle.tick.specs.Due.{triggered, due}
-use Rattle.tick.specs.Level.{restLevel}
+use Rattle.tick.specs.Level.{restLevel, restsAt}
 use Rattle.tick.specs.Tick.{deferred, tick}
-use Rattle.agreement.specs.Waiting.{mayStand, Stands, CountAwaited, TriggerAwaited, SetOutputStands, PutOff, LoadPutOff}
+use Rattle.agreement.specs.Waiting.{Stands, CountAwaited, TriggerAwaited, SetOutputStands, PutOff, LoadPutOff}
 use Rattle.agreement.proofs.GateNothing.{counts-level}
 use Rattle.agreement.proofs.Idling as idling
 use Rattle.agreement.proofs.Output.{output-agrees}
 
 -- the levels that may stand are those that an idle tick leaves; it takes the others high
-rests : (level : Bool) (m : ChannelMode) → mayStand m level ≡ true → restLevel m level ≡ level
+rests : (level : Bool) (m : ChannelMode) → restsAt m level ≡ true → restLevel m level ≡ level
 rests level =
-    every-mode (λ (m : ChannelMode). mayStand m level ≡ true → restLevel m level ≡ level)
+    every-mode (λ (m : ChannelMode). restsAt m level ≡ true → restLevel m level ≡ level)
     (λ may. refl)
     (λ may. refl)
     (λ may. sym may)
@@ -32,9 +32,9 @@ rests level =
     (λ may. sym may)
     (λ may. sym may)
 
-ends : (level : Bool) (m : ChannelMode) → mayStand m level ≡ false → restLevel m level ≡ true
+ends : (level : Bool) (m : ChannelMode) → restsAt m level ≡ false → restLevel m level ≡ true
 ends level =
-    every-mode (λ (m : ChannelMode). mayStand m level ≡ false → restLevel m level ≡ true)
+    every-mode (λ (m : ChannelMode). restsAt m level ≡ false → restLevel m level ≡ true)
     (λ pulse. absurd (true≢false pulse))
     (λ pulse. absurd (true≢false pulse))
     (λ pulse. refl)
@@ -65,15 +65,15 @@ trigger-awaited model c waits none j =
     stands model c (rw (waits, starts) refl) j
 
 -- the level of every mode set may stand
-set-stands : (m : ChannelMode) → mayStand m (outputAfter m) ≡ true
-set-stands = every-mode (λ (m : ChannelMode). mayStand m (outputAfter m) ≡ true) refl refl refl refl refl refl
+set-stands : (m : ChannelMode) → restsAt m (outputAfter m) ≡ true
+set-stands = every-mode (λ (m : ChannelMode). restsAt m (outputAfter m) ≡ true) refl refl refl refl refl refl
 
 set-waits : (model : PitType) (c : Channel) (word : ControlWord) (j : ℕ) → Stands model (setMode c word model) j
 unfolding setMode
 set-waits model c word j = count-awaited model (setMode c word model) refl j
 
 set-may : (model : PitType) (c : Channel) (word : ControlWord)
-    → mayStand (setMode c word model .control .mode) (setMode c word model .pins .output) ≡ true
+    → restsAt (setMode c word model .control .mode) (setMode c word model .pins .output) ≡ true
 unfolding setMode
 set-may model c word = set-stands (word .mode)
 

@@ -1,4 +1,4 @@
--- When a count arrives that was written: "the load comes with the first tick after the write or the trigger", one tick later if the board's defer flag was set at
+-- When a count arrives that was written: with the first tick after the write or after the trigger (docs/TICK.md, "What follows"), one tick later if the board's defer flag was set at
 -- the write (docs/DIFFERENCES.md, S1). The sheets' words of the ticks after a load (specs/Ticking.antt) begin there. Lines M0 to M5 of docs/SHEETS.md.
 use Prim.Native.Nat.{ℕ, _≤_}
 use mathlib.Core.Bool.{Bool, true, false, not, _&&_}
@@ -42,7 +42,7 @@ pub record InRegister (model : PitType) (c : Channel) (register n : ℕ) : Type 
   pub at-least : smallest (modeNumber (c .control .mode)) ≤ n
   pub at-most : n ≤ values (c .control .«bcd_mode»)
 
--- M0, M2, M3, M4: "the tick after a completed load loads". No gate is asked for here. M0-8254: "A count written with the gate low is still loaded by the next tick"
+-- M0, M4: "The tick after a completed load loads"; of modes 2 and 3 docs/TICK.md, T2. No gate is asked for here: M0-8254, "with the gate low too"
 abbrev pub WriteDue : Type 0
 WriteDue = (c : Channel) (defer : Bool) → ComesFirst c defer → due (finalizeLoad c defer) ≡ Load
 

@@ -17,7 +17,7 @@ abbrev pub sheetChip : PitType → Chip
 sheetChip Model8253 = chip8253
 sheetChip Model8254 = chip8254
 
--- a channel that runs, whose next tick loads the count n: "the load comes with the first tick after the write or the trigger". Its load mask is the one that its mode set
+-- a channel that runs, whose next tick loads the count n (Arriving.antt says when that is so). Its load mask is the one that its mode set
 -- leaves where no mode 3 of the 8254 came before (docs/DIFFERENCES.md, S9)
 pub record LoadsNext (model : PitType) (c : Channel) (n : ℕ) : Type 0 where
   pub load-due : due c ≡ Load
@@ -31,7 +31,7 @@ pub record LoadsNext (model : PitType) (c : Channel) (n : ℕ) : Type 0 where
 abbrev pub ticksAfter : PitType → Channel → ℕ → Channel
 ticksAfter model c j = times j (tick model) (tick model c)
 
--- "the output and the value j ticks after the load of N, for each mode, model and radix"
+-- the output and the value j ticks after the load of n, for each mode, model and radix
 pub record AsTheSheetSays (model : PitType) (c : Channel) (n j : ℕ) : Type 0 where
   pub value-agrees :
       ticksAfter model c j .counter .«counting_element»

@@ -5,27 +5,23 @@ use mathlib.Core.Bool.{Bool, true, false}
 use mathlib.Core.Path.{_≡_}
 use Rattle.numbers.specs.Times.{times}
 use Rattle.channel.specs.declared.Channel.{Channel}
-use Rattle.channel.specs.declared.ChannelMode.{ChannelMode}
 use Rattle.channel.specs.declared.ChannelState.the-variants.{WaitingForReload, DeferLoadCycle, WaitingForLoadCycle, WaitingForLoadTrigger}
 use Rattle.channel.specs.declared.ControlWord.{ControlWord}
 use Rattle.channel.specs.declared.PitType.{PitType}
 use Rattle.channel.specs.Kept.{Kept}
-use Rattle.channel.specs.Modes.{byMode, modeNumber}
+use Rattle.channel.specs.Modes.{modeNumber}
 use Rattle.mode.specs.Mode.{setMode}
 use Rattle.sheet.specs.Output.{outputAfterModeSet}
+use Rattle.tick.specs.Level.{restsAt}
 use Rattle.tick.specs.Tick.{tick}
 use Rattle.agreement.specs.Gating.{high}
-
--- whether a mode's output may stand at a level while no count goes on: in modes 2, 4 and 5 it is low for one tick only, so high alone; in the others either
-abbrev pub mayStand : ChannelMode → Bool → Bool
-mayStand m level = byMode true true level true level level m
 
 -- j ticks leave the count, what is read, the state and the output; a pulse that was on in modes 2, 4, 5 ends with the first of them
 pub record Stands (model : PitType) (c : Channel) (j : ℕ) : Type 0 where
   pub count-stands : Kept c (times j (tick model) c)
   pub state-stands : times j (tick model) c .counter .«channel_state» ≡ c .counter .«channel_state»
-  pub output-stands : mayStand (c .control .mode) (c .pins .output) ≡ true → times j (tick model) c .pins .output ≡ c .pins .output
-  pub pulse-ends : mayStand (c .control .mode) (c .pins .output) ≡ false → tick model (times j (tick model) c) .pins .output ≡ true
+  pub output-stands : restsAt (c .control .mode) (c .pins .output) ≡ true → times j (tick model) c .pins .output ≡ c .pins .output
+  pub pulse-ends : restsAt (c .control .mode) (c .pins .output) ≡ false → tick model (times j (tick model) c) .pins .output ≡ true
 
 -- from a mode set, or from mode 0's first byte, which "stops counting" (M0), to the write that completes the count
 abbrev pub CountAwaited : Type 0
@@ -44,8 +40,8 @@ SetOutputStands = (model : PitType) (c : Channel) (word : ControlWord) (j : ℕ)
 pub record PutOff (c d : Channel) : Type 0 where
   pub count-stands : Kept c d
   pub waits-on : d .counter .«channel_state» ≡ WaitingForLoadCycle
-  pub output-stands : mayStand (c .control .mode) (c .pins .output) ≡ true → d .pins .output ≡ c .pins .output
-  pub pulse-ends : mayStand (c .control .mode) (c .pins .output) ≡ false → d .pins .output ≡ true
+  pub output-stands : restsAt (c .control .mode) (c .pins .output) ≡ true → d .pins .output ≡ c .pins .output
+  pub pulse-ends : restsAt (c .control .mode) (c .pins .output) ≡ false → d .pins .output ≡ true
 
 abbrev pub LoadPutOff : Type 0
 LoadPutOff = (model : PitType) (c : Channel) → c .counter .«channel_state» ≡ DeferLoadCycle → PutOff c (tick model c)

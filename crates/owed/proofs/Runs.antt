@@ -14,6 +14,7 @@ use Rattle.tick.specs.Tick.{tick}
 use Rattle.event.specs.declared.Event.{Event}
 use Rattle.event.specs.declared.Event.the-variants.{Unchanged}
 use Rattle.event.specs.Event.{eventOf}
+use Rattle.event.proofs.Room.{standing-level}
 use Rattle.board.specs.declared.Board.{Board}
 use Rattle.board.specs.Board.{channelAt}
 use Rattle.owed.specs.BoardTick.{boardTick, tickEvent}
@@ -71,12 +72,8 @@ module _ (b : Board) (three : length (b .channels) ≡ 3) where
 abbrev pub Still : Board → ℕ → Type 0
 Still b k = (n : ℕ) → n < 3 → (j : ℕ) → j ≤ k → laterAt b j n .pins .output ≡ channelAt b n .pins .output
 
-level-stands : (n : ℕ) (level : Bool) → eventOf n level level ≡ Unchanged
-level-stands n true = refl
-level-stands n false = refl
-
 pub no-event : (n : ℕ) (was is : Bool) → is ≡ was → eventOf n was is ≡ Unchanged
-no-event n was is same = ap (eventOf n was) same ∙ level-stands n was
+no-event n was is same = ap (eventOf n was) same ∙ standing-level n was
 
 -- a tick with no event needs no room and leaves it as it is
 pub no-size : (e₀ e₁ e₂ : Event) → e₀ ≡ Unchanged → e₁ ≡ Unchanged → e₂ ≡ Unchanged → size e₀ + size e₁ + size e₂ ≡ 0

@@ -25,6 +25,6 @@ boardTick b =
       owed = record { 0 = b .owed .0 - 1 };
     }
 
--- the event of a channel in a tick of the board: its "output level after differs from before"
+-- the event of a channel in a tick of the board: its "output level after it differs from before"
 abbrev pub tickEvent : Board → ℕ → Event
 tickEvent b n = eventOf n (channelAt b n .pins .output) (tickedAt b n .pins .output)

@@ -17,9 +17,9 @@ use Rattle.channel.proofs.Pick.{pick-same}
 use Rattle.tick.specs.declared.due.Kind.{Kind}
 use Rattle.tick.specs.declared.due.Kind.the-variants.{Idle, Load}
 use Rattle.tick.specs.Due.{dueIn, due}
-use Rattle.tick.specs.Level.{restLevel}
+use Rattle.tick.specs.Level.{restLevel, restsAt}
 use Rattle.tick.specs.Tick.{agedBy, idle, neverLoaded, sentBack, loadAt, tickBy, tick}
-use Rattle.quiet.specs.Quiet.{restsAt, waitsForCycle, metAlready, quietIf, quietBy, quiet, skipBy, skip}
+use Rattle.quiet.specs.Quiet.{waitsForCycle, metAlready, quietIf, quietBy, quiet, skipBy, skip}
 use Rattle.quiet.proofs.Ages.{aged-more}
 use Rattle.tick.proofs.Loaded.{both-first, both-second}
 

@@ -16,13 +16,14 @@ use Rattle.tick.specs.declared.due.Kind.{Kind}
 use Rattle.tick.specs.declared.due.Kind.the-variants.{Idle, Deferred, Load, Reload, Count}
 use Rattle.tick.specs.Due.{due}
 use Rattle.tick.specs.Taken.{takes}
+use Rattle.tick.specs.Level.{restsAt}
 use Rattle.tick.specs.Tick.{agedBy, neverLoaded}
 
 -- the counts of a whole round, from 0 to 0
 abbrev pub round : Bool → ℕ
 round bcd = cond bcd 10000 65536
 
--- the counts to zero, "the element, in BCD its weight, and for 0 the whole round"
+-- the counts to zero: the element, in BCD its weight, "and for 0 the whole round"
 abbrev pub countsToZero : Bool → ℕ → ℕ
 countsToZero bcd e = cond (eqb e 0) (round bcd) (cond bcd (weight e) e)
 
@@ -32,10 +33,6 @@ toZero c = countsToZero (c .control .«bcd_mode») (c .counter .«counting_eleme
 -- "no end": as many as one call may ask for
 abbrev pub noEnd : ℕ
 noEnd = 65536
-
--- "output high, or mode 0, 1, 3": a tick that neither loads nor counts leaves the output where it is
-abbrev pub restsAt : ChannelMode → Bool → Bool
-restsAt m level = byMode true true level true level level m
 
 abbrev pub waitsForCycle : ChannelState → Bool
 waitsForCycle WaitingForReload = false
@@ -81,8 +78,9 @@ quietCounting c =
 abbrev pub quietIf : Bool → ℕ
 quietIf alike = cond alike noEnd 0
 
--- how many next ticks are all alike, "with no event, no load, no state entered"
+-- how many next ticks are all alike, "with no event, no load and no state entered"
 abbrev pub quietBy : Kind → Channel → ℕ
+-- idle: "output high, or mode 0, 1, 3"
 quietBy Idle c = quietIf (restsAt (c .control .mode) (c .pins .output))
 quietBy Deferred c = 0
 quietBy Load c = quietIf (metAlready c)

@@ -13,8 +13,9 @@ ghost use Rattle.numbers.specs.Digits.{weight};
 ghost use Rattle.numbers.specs.Times.{times};
 ghost use Rattle.count.specs.Count.{count};
 ghost use Rattle.tick.specs.Taken.{takes};
+ghost use Rattle.tick.specs.Level.{restsAt};
 ghost use Rattle.tick.specs.Tick.{agedBy};
-ghost use Rattle.quiet.specs.Quiet.{round, toZero, restsAt, waitsForCycle, metAlready, untilHigh, untilLow, untilHalf, untilStrobe, quietFor, quietCounting, quietIf, quiet, skip};
+ghost use Rattle.quiet.specs.Quiet.{round, toZero, waitsForCycle, metAlready, untilHigh, untilLow, untilHalf, untilStrobe, quietFor, quietCounting, quietIf, quiet, skip};
 
 fn wide(number: u16) -> u32
     ensures { λ r. ⌜ r ≡ number ⌝ }

@@ -1,4 +1,4 @@
--- What is proved of every tick: docs/TICK.md, section 1 and "Demand 3 with ticks".
+-- What is proved of every tick: docs/TICK.md, "One tick of one channel" and "Demand 3 with ticks".
 use mathlib.Core.Path.{_≡_}
 use mathlib.Core.Bool.{true, false}
 use Rattle.numbers.specs.Times.{times}
@@ -12,7 +12,7 @@ use Rattle.tick.specs.Tick.{tick}
 use Rattle.tick.specs.Loads.{loads}
 use Rattle.tick.specs.Kept.{TickKeeps}
 
--- "It never changes mode, BCD, gate, mask, reload value, latched"
+-- "control word, gate, load mask, count register, reload value, latched and a half-read word stand"
 abbrev pub TicksKeep : Type 0
 TicksKeep = (model : PitType) (c : Channel) → TickKeeps c (tick model c)
 

@@ -9,6 +9,10 @@ use Rattle.channel.specs.Modes.{byMode}
 abbrev pub restLevel : ChannelMode → Bool → Bool
 restLevel m level = byMode level level true level true true m
 
+-- whether such a tick leaves the output where it is: high alone in modes 2, 4 and 5, either level in the others
+abbrev pub restsAt : ChannelMode → Bool → Bool
+restsAt m level = byMode true true level true level level m
+
 -- a tick that loads a count: M0, M1 low; M2 to M5 high
 abbrev pub loadLevel : ChannelMode → Bool
 loadLevel = byMode false false true true true true
