@@ -214,6 +214,11 @@ fn tell(
                 let left = b.remainder;
                 at = say(form, out, at, index, answer, none, left);
             }
+            // Two bytes are lent at place 0, so the place is answered.
+            Turn::Untouched => {
+                let left = b.remainder;
+                at = say(form, out, at, index, Answer::Place(0), none, left);
+            }
         }
     }
     at

@@ -1,4 +1,5 @@
 pub mod Padded
 pub mod Room
 pub mod Turn
+pub mod Recorded
 pub mod Steps

@@ -1,21 +1,19 @@
--- The turn that is found for a recorded operation: on every board that owes ticks, or owes none, both come to the same outcome, and the turn's channel is one of the
--- board's. Assumes nothing.
-use Prim.Native.Nat.{ℕ, _<_, _≤_}
-use mathlib.Core.Bool.{Bool, true, false, cond, _||_}
+-- The turn of an operation comes to the step of the board, on every board, with any event bytes lent at any place. Assumes nothing.
+use Prim.Native.Nat.{ℕ}
+use mathlib.Core.Bool.{Bool, true, false, cond, not, _||_}
 use mathlib.Core.List.{List, []}
 use mathlib.Core.Path.{_≡_, refl, sym, _∙_, ap}
-use native.Mathlib.Omega.{arith}
-use lib.Dec.{eqb}
+use lib.Dec.{eqb, ltb}
 use lib.Seq.{set-getD}
-use borrow.Author.Tests.{lt-ltb, le-ltb, not-true, not-false}
 use Rattle.refusal.specs.Reply.{Reply, refused, accepted}
+use Rattle.refusal.specs.declared.Refusal.{Refusal}
 use Rattle.refusal.specs.declared.Refusal.the-variants as refusal
+use Rattle.refusal.specs.Refusal.{refusalNumber}
 use Rattle.channel.specs.declared.Channel.{Channel}
-use Rattle.channel.specs.declared.ControlWord.{ControlWord}
 use Rattle.channel.specs.Blank.{blank}
+use Rattle.control.specs.declared.Command.{Command}
 use Rattle.control.specs.declared.Command.the-variants as command
 use Rattle.control.specs.Control.{commandOf}
-use Rattle.control.proofs.Named.{named-below}
 use Rattle.latch.specs.Latching.{latchCount}
 use Rattle.load.specs.Write.{writeByte}
 use Rattle.gate.specs.Gate.{setGate}
@@ -24,178 +22,154 @@ use Rattle.time.specs.declared.SystemTicks.{SystemTicks}
 use Rattle.time.specs.Time.{Yield}
 use Rattle.event.specs.Event.{placeEvent}
 use Rattle.board.specs.declared.Board.{Board}
-use Rattle.board.specs.declared.Answer.the-variants as answer
 use Rattle.board.specs.Board.{channelAt, withChannels, withChannel}
-use Rattle.board.specs.Outcome.{refuse}
+use Rattle.board.specs.Outcome.{Outcome, refuse}
 use Rattle.board.specs.Making.{reset}
 use Rattle.board.specs.Counting.{counts, loadCycle}
 use Rattle.clock.specs.Clock.{elapsed, yielding, catchUp, run}
+use Rattle.ports.specs.declared.port.Port.{Port}
 use Rattle.ports.specs.declared.port.Port.the-variants as port
 use Rattle.ports.specs.Port.{portOf}
-use Rattle.ports.specs.Settle.{levelEvent, placedOn, settle, untouched}
+use Rattle.ports.specs.Settle.{levelEvent, placedOn, settle}
 use Rattle.ports.specs.Gates.{setChannelGate}
-use Rattle.ports.specs.Reads.{readPort}
-use Rattle.ports.specs.Writes.{writePort}
-use Rattle.ports.proofs.Below.{data-below}
-use Rattle.trace.specs.declared.operation.Operation.the-variants as recorded
+use Rattle.ports.specs.Reads.{readFrom, readPort}
+use Rattle.ports.specs.Writes.{controlRegisterWrite, writeTo, writePort}
 use Rattle.turn.specs.declared.finding.Work.the-variants as work
 use Rattle.turn.specs.declared.finding.Turn.{Turn}
 use Rattle.turn.specs.declared.finding.Turn.the-variants as turn
-use Rattle.turn.specs.Asked.{lent}
-use Rattle.turn.specs.Made.{inSix, make}
-use Rattle.turn.specs.Finding.{turnOf, Finds}
-use Rattle.turn.specs.Turn.{owes, settledOn, changed, workedOn, timeKept, timeYielded, timedOn}
-
--- what is said of owed ticks, as the calls test it
-none-owed : (b : Board) → owes b ≡ false → eqb (b .owed .0) 0 ≡ true
-none-owed b is = not-false (eqb (b .owed .0) 0) is
-
-some-owed : (b : Board) → owes b ≡ true → eqb (b .owed .0) 0 ≡ false
-some-owed b is = not-true (eqb (b .owed .0) 0) is
+use Rattle.turn.specs.Finding as finding
+use Rattle.turn.specs.Turn.{owes, settledOn, changed, workedOn, timeKept, timeYielded, timedOn, withEvents, turned}
 
 -- a refused event leaves the channel's own record at its place, which is the board as it was
 placed : (b : Board) (n : ℕ) (c : Channel) (reply : Reply ℕ) (bytes : List ℕ)
-    → inSix (placedOn b (withChannel b n c) (record { reply = reply; bytes = bytes }))
+    → placedOn b (withChannel b n c) (record { reply = reply; bytes = bytes })
     ≡ workedOn b n (settledOn (channelAt b n) c (record { reply = reply; bytes = bytes }))
-placed b n c (refused number) bytes =
-    ap (λ channels. inSix (record { reply = refused number; board = withChannels b channels; events = bytes })) (sym (set-getD (b .channels) n blank))
+placed b n c (refused number) bytes = ap (λ (channels : List Channel). refuse number (withChannels b channels) bytes) (sym (set-getD (b .channels) n blank))
 placed b n c (accepted place) bytes = refl
 
 -- what a write, a latch, a mode set and a gate share
-settled : (b : Board) (n : ℕ) (c : Channel) → inSix (settle b n c lent 0) ≡ workedOn b n (changed n (channelAt b n) c)
+settled : (b : Board) (n : ℕ) (c : Channel) (events : List ℕ) (place : ℕ) → settle b n c events place ≡ workedOn b n (changed n (channelAt b n) c events place)
 unfolding settle
-settled b n c = let p = placeEvent (levelEvent n (channelAt b n) c) lent 0 in placed b n c (p .reply) (p .bytes)
+settled b n c events place = let p = placeEvent (levelEvent n (channelAt b n) c) events place in placed b n c (p .reply) (p .bytes)
+
+-- what is refused on a condition ..
+unless : (x : Bool) (r : Refusal) (b : Board) (t : Turn) (events : List ℕ) (place : ℕ)
+    → cond x (refuse (refusalNumber r) b events) (turned b t events place) ≡ turned b (cond x (finding.refuse r) t) events place
+unless true r b t events place = refl
+unless false r b t events place = refl
+
+-- .. and while ticks are owed
+unless-owed : (none : Bool) (b : Board) (t : Turn) (events : List ℕ) (place : ℕ)
+    → cond none (turned b t events place) (refuse 16 b events) ≡ turned b (finding.unlessOwing (not none) t) events place
+unless-owed true b t events place = refl
+unless-owed false b t events place = refl
+
+module _ (b : Board) (events : List ℕ) (place : ℕ) where
+  -- an outcome where no tick is owed
+  owed-or : (o : Outcome) (t : Turn) → o ≡ turned b t events place
+      → cond (eqb (b .owed .0) 0) o (refuse 16 b events) ≡ turned b (finding.unlessOwing (owes b) t) events place
+  owed-or o t e = ap (λ (p : Outcome). cond (eqb (b .owed .0) 0) p (refuse 16 b events)) e ∙ unless-owed (eqb (b .owed .0) 0) b t events place
+
+  commanded : (k : Command) → controlRegisterWrite b k events place ≡ turned b (finding.commandTurn k) events place
+  commanded command.Nothing = refl
+  commanded (command.LatchCount n) = settled b n (latchCount (channelAt b n)) events place
+  commanded (command.SetMode n word) = settled b n (setMode (channelAt b n) word (b .model)) events place
+
+  written : (p : Port) (byte : ℕ) → writeTo b p byte events place ≡ turned b (finding.writeTurn (owes b) p byte) events place
+  written (port.Data n) byte = owed-or _ (turn.OnChannel n (work.Write byte)) (settled b n (writeByte (channelAt b n) byte (b .defer)) events place)
+  written port.Command byte = owed-or _ (finding.commandTurn (commandOf byte)) (commanded (commandOf byte))
+  written port.Unknown byte = refl
+
+  pub write-is : (number byte : ℕ) → writePort b number byte events place ≡ turned b (finding.writeTurn (owes b) (portOf number) byte) events place
+  unfolding writePort
+  write-is number byte = written (portOf number) byte
+
+  pub gate-is : (n : ℕ) (level : Bool) → setChannelGate b n level events place ≡ turned b (finding.gateTurn (owes b) n level) events place
+  unfolding setChannelGate
+  gate-is n level =
+      ap (λ (o : Outcome). cond (ltb 2 n) (refuse 2 b events) o)
+      (owed-or _ (turn.OnChannel n (work.SetGate level)) (settled b n (setGate (channelAt b n) level) events place))
+      ∙ unless (ltb 2 n) refusal.ChannelAbove2 b _ events place
+
+-- A call that lends no bytes comes to a turn, whatever bytes the turn is lent.
+pub record Bare (b : Board) (o : Outcome) (t : Turn) : Type 0 where
+  pub same : (events : List ℕ) (place : ℕ) → withEvents events o ≡ turned b t events place
+  pub none : o .events ≡ []
+
+-- .. also where it is refused on a condition ..
+bare-unless : (x : Bool) (r : Refusal) (b : Board) (o : Outcome) (t : Turn) → Bare b o t
+    → Bare b (cond x (refuse (refusalNumber r) b []) o) (cond x (finding.refuse r) t)
+bare-unless true r b o t is = record { same = λ events place. refl; none = refl }
+bare-unless false r b o t is = is
+
+-- .. and while ticks are owed
+bare-owed : (none : Bool) (b : Board) (o : Outcome) (t : Turn) → Bare b o t
+    → Bare b (cond none o (refuse 16 b [])) (finding.unlessOwing (not none) t)
+bare-owed true b o t is = is
+bare-owed false b o t is = record { same = λ events place. refl; none = refl }
 
 -- a refusal leaves remainder, warp, defer flag and owed ticks, which is the board as it was
-timed : (b : Board) (next : ℕ) (defers zero none : Bool) (reply : Reply Yield)
-    → inSix (cond zero (refuse 3 b []) (cond none (yielding b next (defers || b .defer) reply) (refuse 16 b [])))
+yielded : (b : Board) (next : ℕ) (defers zero none : Bool) (reply : Reply Yield) (events : List ℕ)
+    → withEvents events (cond zero (refuse 3 b []) (cond none (yielding b next (defers || b .defer) reply) (refuse 16 b [])))
     ≡ timedOn b
     (cond zero (timeKept 3 (b .remainder .0) (b .warp .0) (b .defer) (b .owed .0))
     (cond none (timeYielded next defers (b .remainder .0) (b .warp .0) (b .defer) (b .owed .0) reply)
     (timeKept 16 (b .remainder .0) (b .warp .0) (b .defer) (b .owed .0))))
-timed b next defers true none reply = refl
-timed b next defers false false reply = refl
-timed b next defers false true (refused number) = refl
-timed b next defers false true (accepted made) = refl
+    events
+yielded b next defers true none reply events = refl
+yielded b next defers false false reply events = refl
+yielded b next defers false true (refused number) events = refl
+yielded b next defers false true (accepted made) events = refl
 
-module _ (number : ℕ) where
-  pub data-read : (n : ℕ) → portOf number ≡ port.Data n → (owing : Bool) → Finds owing (recorded.ReadPort number) (turn.OnChannel n work.Read)
-  unfolding turnOf make readPort
-  data-read n e owing = (rw e refl, λ b is. rw e refl, data-below number n e)
+no-event : (b : Board) (next : ℕ) (defer zero none : Bool) (reply : Reply Yield)
+    → cond zero (refuse 3 b []) (cond none (yielding b next defer reply) (refuse 16 b [])) .events ≡ []
+no-event b next defer true none reply = refl
+no-event b next defer false false reply = refl
+no-event b next defer false true (refused number) = refl
+no-event b next defer false true (accepted made) = refl
 
-  pub command-read : portOf number ≡ port.Command → (owing : Bool) → Finds owing (recorded.ReadPort number) (turn.Say (answer.Byte 0))
-  unfolding turnOf make readPort
-  command-read e owing = (rw e refl, λ b is. rw e refl, tt)
+module _ (b : Board) where
+  from : (p : Port) → Bare b (readFrom b p) (finding.readTurn p)
+  from (port.Data n) = record { same = λ events place. refl; none = refl }
+  from port.Command = record { same = λ events place. refl; none = refl }
+  from port.Unknown = record { same = λ events place. refl; none = refl }
 
-  pub unknown-read : portOf number ≡ port.Unknown → (owing : Bool) → Finds owing (recorded.ReadPort number) (turn.Say (answer.Refused refusal.PortUnknown))
-  unfolding turnOf make readPort
-  unknown-read e owing = (rw e refl, λ b is. rw e refl, tt)
+  pub read-is : (number : ℕ) → Bare b (readPort b number) (finding.readTurn (portOf number))
+  unfolding readPort
+  read-is number = from (portOf number)
 
-  module _ (byte : ℕ) where
-    pub data-write : (n : ℕ) → portOf number ≡ port.Data n → Finds false (recorded.WritePort number byte) (turn.OnChannel n (work.Write byte))
-    unfolding turnOf make writePort
-    data-write n e =
-        (rw e refl, λ b is. rw e (rw (none-owed b is) (settled b n (writeByte (channelAt b n) byte (b .defer)))), data-below number n e)
+  pub counts-is : (n number : ℕ) → Bare b (counts b n number) (finding.countsTurn n number)
+  unfolding counts
+  counts-is n number =
+      bare-unless (ltb 2 n) refusal.ChannelAbove2 b _ _
+      (bare-unless (ltb 65536 number) refusal.TooManyCounts b _ (turn.OnChannel n (work.Counts number))
+      (record { same = λ events place. refl; none = refl }))
 
-    -- refusal 16, of a byte to any port that is known
-    pub data-owed : (n : ℕ) → portOf number ≡ port.Data n → Finds true (recorded.WritePort number byte) (turn.Say (answer.Refused refusal.TicksOwed))
-    unfolding turnOf make writePort
-    data-owed n e = (rw e refl, λ b is. rw e (rw (some-owed b is) refl), tt)
+  pub load-cycle-is : (n : ℕ) → Bare b (loadCycle b n) (finding.loadCycleTurn n)
+  unfolding loadCycle
+  load-cycle-is n =
+      bare-unless (ltb 2 n) refusal.ChannelAbove2 b _ (turn.OnChannel n work.LoadCycle) (record { same = λ events place. refl; none = refl })
 
-    pub command-owed : portOf number ≡ port.Command → Finds true (recorded.WritePort number byte) (turn.Say (answer.Refused refusal.TicksOwed))
-    unfolding turnOf make writePort
-    command-owed e = (rw e refl, λ b is. rw e (rw (some-owed b is) refl), tt)
+  pub catch-up-is : (given : SystemTicks) → Bare b (catchUp b (given .0)) (finding.catchUpTurn given)
+  unfolding catchUp
+  catch-up-is given =
+      let zero = eqb (b .divisor) 0 in
+      let none = eqb (b .owed .0) 0 in
+      record {
+        same = λ events place. yielded b (given .0) true zero none (elapsed b (given .0)) events;
+        none = no-event b (given .0) true zero none (elapsed b (given .0));
+      }
 
-    pub unknown-write : portOf number ≡ port.Unknown → (owing : Bool)
-        → Finds owing (recorded.WritePort number byte) (turn.Say (answer.Refused refusal.PortUnknown))
-    unfolding turnOf make writePort
-    unknown-write e owing = (rw e refl, λ b is. rw e refl, tt)
+  pub run-is : (given : SystemTicks) → Bare b (run b (given .0)) (finding.runTurn given)
+  unfolding run
+  run-is given =
+      let zero = eqb (b .divisor) 0 in
+      let none = eqb (b .owed .0) 0 in
+      record {
+        same = λ events place. yielded b 0 false zero none (elapsed b (given .0)) events;
+        none = no-event b 0 (b .defer) zero none (elapsed b (given .0));
+      }
 
-command-port : portOf 0x43 ≡ port.Command
-unfolding portOf
-command-port = refl
-
-module _ (byte : ℕ) where
-  -- the command port has one number
-  pub command-write : (number : ℕ) (t : Turn) → portOf number ≡ port.Command → Finds false (recorded.WritePort 0x43 byte) t
-      → Finds false (recorded.WritePort number byte) t
-  unfolding turnOf make writePort
-  command-write number t e found =
-      (rw (e ∙ sym command-port) (found .0), λ b is. rw (e ∙ sym command-port) (found .1 b is), found .2)
-
-  pub nothing-turn : commandOf byte ≡ command.Nothing → Finds false (recorded.WritePort 0x43 byte) (turn.Say (answer.Place 0))
-  unfolding turnOf make writePort untouched placeEvent
-  nothing-turn e = (rw (command-port, e), λ b is. rw (command-port, none-owed b is, e), tt)
-
-  pub latch-turn : (n : ℕ) → byte < 256 → commandOf byte ≡ command.LatchCount n → Finds false (recorded.WritePort 0x43 byte) (turn.OnChannel n work.Latch)
-  unfolding turnOf make writePort
-  latch-turn n h e =
-      (rw (command-port, e), λ b is. rw (command-port, none-owed b is, e) (settled b n (latchCount (channelAt b n))), named-below byte h _ e)
-
-  pub mode-turn : (n : ℕ) (word : ControlWord) → byte < 256 → commandOf byte ≡ command.SetMode n word
-      → Finds false (recorded.WritePort 0x43 byte) (turn.OnChannel n (work.SetMode word))
-  unfolding turnOf make writePort
-  mode-turn n word h e = (
-    rw (command-port, e),
-    λ b is. rw (command-port, none-owed b is, e) (settled b n (setMode (channelAt b n) word (b .model))),
-    named-below byte h _ e,
-  )
-
-module _ (n : ℕ) (on : n ≤ 2) where
-  pub gate-turn : (level : Bool) → Finds false (recorded.SetChannelGate n level) (turn.OnChannel n (work.SetGate level))
-  unfolding turnOf make setChannelGate
-  gate-turn level =
-      (rw (le-ltb 2 n on) refl, λ b is. rw (le-ltb 2 n on, none-owed b is) (settled b n (setGate (channelAt b n) level)), omega arith)
-
-  pub gate-owed : (level : Bool) → Finds true (recorded.SetChannelGate n level) (turn.Say (answer.Refused refusal.TicksOwed))
-  unfolding turnOf make setChannelGate
-  gate-owed level = (rw (le-ltb 2 n on) refl, λ b is. rw (le-ltb 2 n on, some-owed b is), tt)
-
-  pub counts-turn : (number : ℕ) → number ≤ 65536 → (owing : Bool) → Finds owing (recorded.Counts n number) (turn.OnChannel n (work.Counts number))
-  unfolding turnOf make counts
-  counts-turn number few owing =
-      (rw (le-ltb 2 n on, le-ltb 65536 number few) refl, λ b is. rw (le-ltb 2 n on, le-ltb 65536 number few), omega arith)
-
-  pub too-many : (number : ℕ) → 65536 < number → (owing : Bool) → Finds owing (recorded.Counts n number) (turn.Say (answer.Refused refusal.TooManyCounts))
-  unfolding turnOf make counts
-  too-many number many owing =
-      (rw (le-ltb 2 n on, lt-ltb 65536 number many) refl, λ b is. rw (le-ltb 2 n on, lt-ltb 65536 number many), tt)
-
-  pub load-cycle-turn : (owing : Bool) → Finds owing (recorded.LoadCycle n) (turn.OnChannel n work.LoadCycle)
-  unfolding turnOf make loadCycle
-  load-cycle-turn owing = (rw (le-ltb 2 n on) refl, λ b is. rw (le-ltb 2 n on), omega arith)
-
--- refusal 2
-module _ (n : ℕ) (above : 2 < n) where
-  pub gate-above : (level owing : Bool) → Finds owing (recorded.SetChannelGate n level) (turn.Say (answer.Refused refusal.ChannelAbove2))
-  unfolding turnOf make setChannelGate
-  gate-above level owing = (rw (lt-ltb 2 n above) refl, λ b is. rw (lt-ltb 2 n above), tt)
-
-  pub counts-above : (number : ℕ) (owing : Bool) → Finds owing (recorded.Counts n number) (turn.Say (answer.Refused refusal.ChannelAbove2))
-  unfolding turnOf make counts
-  counts-above number owing = (rw (lt-ltb 2 n above) refl, λ b is. rw (lt-ltb 2 n above), tt)
-
-  pub load-cycle-above : (owing : Bool) → Finds owing (recorded.LoadCycle n) (turn.Say (answer.Refused refusal.ChannelAbove2))
-  unfolding turnOf make loadCycle
-  load-cycle-above owing = (rw (lt-ltb 2 n above) refl, λ b is. rw (lt-ltb 2 n above), tt)
-
-pub catch-up-turn : (given : SystemTicks) (owing : Bool) → Finds owing (recorded.CatchUp given) (turn.Elapse given given true)
-unfolding turnOf make catchUp
-catch-up-turn given owing =
-    (refl, λ b is. timed b (given .0) true (eqb (b .divisor) 0) (eqb (b .owed .0) 0) (elapsed b (given .0)), tt)
-
-pub run-turn : (given : SystemTicks) (owing : Bool) → Finds owing (recorded.Run given) (turn.Elapse given (record { 0 = 0 }) false)
-unfolding turnOf make run
-run-turn given owing = (refl, λ b is. timed b 0 false (eqb (b .divisor) 0) (eqb (b .owed .0) 0) (elapsed b (given .0)), tt)
-
-pub reset-turn : Finds false recorded.Reset turn.Reset
-unfolding turnOf make reset
-reset-turn = (refl, λ b is. rw (none-owed b is) refl, tt)
-
-pub reset-owed : Finds true recorded.Reset (turn.Say (answer.Refused refusal.TicksOwed))
-unfolding turnOf make reset
-reset-owed = (refl, λ b is. rw (some-owed b is) refl, tt)
-
-pub work-off-turn : (stated : ℕ) (owing : Bool) → Finds owing (recorded.WorkOff stated) (turn.WorkOff stated)
-unfolding turnOf make
-work-off-turn stated owing = (refl, λ b is. refl, tt)
+  pub reset-is : Bare b (reset b) (finding.resetTurn (owes b))
+  unfolding reset
+  reset-is = bare-owed (eqb (b .owed .0) 0) b _ turn.Reset (record { same = λ events place. refl; none = refl })

@@ -1,4 +1,5 @@
--- The turn of a recorded operation: its port or channel found, and what is refused without a look at the board, but for whether it owes ticks, refused.
+-- The turn of an operation: its port or channel found, and what is refused without a look at the board, but for whether it owes ticks, refused. Its parts serve
+-- the operations of a trace and of a host alike.
 use Prim.Native.Nat.{ℕ}
 use mathlib.Core.Bool.{Bool, true, false, cond}
 use mathlib.Core.Path.{_≡_}
@@ -8,8 +9,8 @@ use Rattle.refusal.specs.declared.Refusal.the-variants.{PortUnknown, ChannelAbo
 use Rattle.control.specs.declared.Command.{Command}
 use Rattle.control.specs.declared.Command.the-variants as command
 use Rattle.control.specs.Control.{commandOf}
-use Rattle.board.specs.declared.Board.{Board}
-use Rattle.board.specs.declared.Answer.the-variants.{Refused, Place, Byte}
+use Rattle.board.specs.declared.Answer.the-variants.{Refused, Byte}
+use Rattle.time.specs.declared.SystemTicks.{SystemTicks}
 use Rattle.ports.specs.declared.port.Port.{Port}
 use Rattle.ports.specs.declared.port.Port.the-variants as port
 use Rattle.ports.specs.Port.{portOf}
@@ -17,9 +18,8 @@ use Rattle.trace.specs.declared.operation.Operation.{Operation}
 use Rattle.trace.specs.declared.operation.Operation.the-variants as recorded
 use Rattle.turn.specs.declared.finding.Work.the-variants as work
 use Rattle.turn.specs.declared.finding.Turn.{Turn}
-use Rattle.turn.specs.declared.finding.Turn.the-variants.{OnChannel, Elapse, Reset, WorkOff, Say}
-use Rattle.turn.specs.Made.{make}
-use Rattle.turn.specs.Turn.{owes, turned, OnBoard}
+use Rattle.turn.specs.declared.finding.Turn.the-variants.{OnChannel, Elapse, Reset, WorkOff, Untouched, Say}
+use Rattle.turn.specs.Turn.{OnBoard}
 
 -- "Each returns its number and the same board"
 abbrev pub refuse : Refusal → Turn
@@ -29,9 +29,9 @@ refuse refusal = Say (Refused refusal)
 abbrev pub unlessOwing : Bool → Turn → Turn
 unlessOwing owing turn = cond owing (refuse TicksOwed) turn
 
--- "one of three commands: nothing ..., latch, or mode set". Nothing answers the place that was lent, 0
+-- "one of three commands: nothing ..., latch, or mode set"
 abbrev pub commandTurn : Command → Turn
-commandTurn command.Nothing = Say (Place 0)
+commandTurn command.Nothing = Untouched
 commandTurn (command.LatchCount n) = OnChannel n work.Latch
 commandTurn (command.SetMode n word) = OnChannel n (work.SetMode word)
 
@@ -51,21 +51,39 @@ readTurn port.Unknown = refuse PortUnknown
 abbrev pub channelTurn : ℕ → Turn → Turn
 channelTurn channel turn = cond (ltb 2 channel) (refuse ChannelAbove2) turn
 
--- 6 "more than 65,536 counts asked in one call"; 16 where ticks are owed, for a gate right after 2; "Catch-up then sets the warp to its ticks and the defer flag
--- to true; run sets the warp to 0"
+-- 16 right after 2
+abbrev pub gateTurn : Bool → ℕ → Bool → Turn
+gateTurn owing channel level = channelTurn channel (unlessOwing owing (OnChannel channel (work.SetGate level)))
+
+-- 6 "more than 65,536 counts asked in one call"
+abbrev pub countsTurn : ℕ → ℕ → Turn
+countsTurn channel number = channelTurn channel (cond (ltb 65536 number) (refuse TooManyCounts) (OnChannel channel (work.Counts number)))
+
+abbrev pub loadCycleTurn : ℕ → Turn
+loadCycleTurn channel = channelTurn channel (OnChannel channel work.LoadCycle)
+
+-- "Catch-up then sets the warp to its ticks and the defer flag to true; run sets the warp to 0"
+abbrev pub catchUpTurn : SystemTicks → Turn
+catchUpTurn given = Elapse given given true
+
+abbrev pub runTurn : SystemTicks → Turn
+runTurn given = Elapse given (record { 0 = 0 }) false
+
+abbrev pub resetTurn : Bool → Turn
+resetTurn owing = unlessOwing owing Reset
+
+-- the turn of a recorded operation
 unfoldable pub turnOf : Bool → Operation → Turn
 turnOf owing (recorded.WritePort number byte) = writeTurn owing (portOf number) byte
 turnOf owing (recorded.ReadPort number) = readTurn (portOf number)
-turnOf owing (recorded.SetChannelGate channel level) = channelTurn channel (unlessOwing owing (OnChannel channel (work.SetGate level)))
-turnOf owing (recorded.Counts channel number) =
-    channelTurn channel (cond (ltb 65536 number) (refuse TooManyCounts) (OnChannel channel (work.Counts number)))
-turnOf owing (recorded.LoadCycle channel) = channelTurn channel (OnChannel channel work.LoadCycle)
-turnOf owing (recorded.CatchUp given) = Elapse given given true
-turnOf owing (recorded.Run given) = Elapse given (record { 0 = 0 }) false
-turnOf owing recorded.Reset = unlessOwing owing Reset
+turnOf owing (recorded.SetChannelGate channel level) = gateTurn owing channel level
+turnOf owing (recorded.Counts channel number) = countsTurn channel number
+turnOf owing (recorded.LoadCycle channel) = loadCycleTurn channel
+turnOf owing (recorded.CatchUp given) = catchUpTurn given
+turnOf owing (recorded.Run given) = runTurn given
+turnOf owing recorded.Reset = resetTurn owing
 turnOf owing (recorded.WorkOff stated) = WorkOff stated
 
--- what is promised of the turn that the code finds: it is this one, and on every board that owes ticks or owes none, as was said, it comes to what the operation
--- does; its channel is one of the board's
-abbrev pub Finds : Bool → Operation → Turn → Type 0
-Finds owing o t = (t ≡ turnOf owing o) × ((b : Board) → owes b ≡ owing → make b o ≡ turned b t) × OnBoard t
+-- what is promised of the turn that the code finds: it is this one, and its channel is one of the board's
+abbrev pub Finds : Turn → Turn → Type 0
+Finds t found = (found ≡ t) × OnBoard found

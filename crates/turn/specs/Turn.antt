@@ -1,5 +1,5 @@
--- An operation whose port or channel is found, and what it does to one channel's record, to the board's time or to its owed ticks: the form in which the runner
--- changes the board where it stands. proofs/Turn.antt shows that nothing else is meant than `make`.
+-- An operation whose port or channel is found, and what it does to one channel's record, to the board's time or to its owed ticks: the form in which a board is
+-- changed where it stands, by the runner that owns it or in a host's bytes. proofs/Turn.antt shows that nothing else is meant than the step of the board.
 use Prim.Native.Nat.{ℕ, _<_}
 use mathlib.Core.Bool.{Bool, not, cond, _||_}
 use mathlib.Core.List.{List}
@@ -23,13 +23,14 @@ use Rattle.board.specs.Board.{channelAt, withChannel, withTime}
 use Rattle.board.specs.Outcome.{Outcome, Value, done, byte, ticks}
 use Rattle.board.specs.Making.{restored}
 use Rattle.board.specs.Answer.{replyOf}
-use Rattle.ports.specs.Settle.{levelEvent, callReply}
+use Rattle.ports.specs.Settle.{levelEvent, callReply, untouched}
 use Rattle.owed.specs.Worked.{workOff}
 use Rattle.turn.specs.declared.finding.Work.{Work}
 use Rattle.turn.specs.declared.finding.Work.the-variants as work
 use Rattle.turn.specs.declared.finding.Turn.{Turn}
 use Rattle.turn.specs.declared.finding.Turn.the-variants as turn
 use Rattle.turn.specs.declared.raising.Raised.{Raised}
+use Rattle.turn.specs.declared.working.Done.{Done}
 use Rattle.turn.specs.declared.elapsing.Elapsed.{Elapsed}
 use Rattle.turn.specs.Asked.{lent, six, padded}
 use Rattle.turn.specs.Made.{inSix}
@@ -38,7 +39,7 @@ use Rattle.turn.specs.Made.{inSix}
 abbrev pub owes : Board → Bool
 owes b = not (eqb (b .owed .0) 0)
 
--- what is said, the channel's record after it, and the lent bytes in six places
+-- what is said, the channel's record after it, and the lent event bytes
 pub record WorkDone : Type 0 where
   pub reply : Reply Value
   pub channel : Channel
@@ -52,29 +53,29 @@ recordAfter (accepted place) old new = new
 -- the event's refusal or its new place is the work's
 abbrev pub settledOn : Channel → Channel → Placing → WorkDone
 settledOn old new placing =
-    record { reply = callReply (placing .reply); channel = recordAfter (placing .reply) old new; events = padded (placing .bytes) }
+    record { reply = callReply (placing .reply); channel = recordAfter (placing .reply) old new; events = placing .bytes }
 
--- a new record of channel n, with two bytes lent "at place 0" for the event of its output
-abbrev pub changed : ℕ → Channel → Channel → WorkDone
-changed n old new = settledOn old new (placeEvent (levelEvent n old new) lent 0)
+-- a new record of channel n, with bytes lent for the event of its output
+abbrev pub changed : ℕ → Channel → Channel → List ℕ → ℕ → WorkDone
+changed n old new events place = settledOn old new (placeEvent (levelEvent n old new) events place)
 
 -- "Reads come from the output latch": the byte, and the record that the read leaves; of an event nothing is told
-abbrev pub readDone : ByteRead → WorkDone
-readDone r = record { reply = accepted (byte (r .byte)); channel = r .channel; events = six }
+abbrev pub readDone : ByteRead → List ℕ → WorkDone
+readDone r events = record { reply = accepted (byte (r .byte)); channel = r .channel; events = events }
 
 -- a new record of a channel of which nothing more is told
-abbrev pub unheard : Channel → WorkDone
-unheard new = record { reply = accepted done; channel = new; events = six }
+abbrev pub unheard : Channel → List ℕ → WorkDone
+unheard new events = record { reply = accepted done; channel = new; events = events }
 
--- the work on the record of channel n, with the board's model and defer flag
-abbrev pub workOn : Channel → ℕ → Work → PitType → Bool → WorkDone
-workOn c n (work.Write x) model defer = changed n c (writeByte c x defer)
-workOn c n work.Latch model defer = changed n c (latchCount c)
-workOn c n (work.SetMode word) model defer = changed n c (setMode c word model)
-workOn c n (work.SetGate level) model defer = changed n c (setGate c level)
-workOn c n work.Read model defer = readDone (readByte c)
-workOn c n (work.Counts number) model defer = unheard (times number count c)
-workOn c n work.LoadCycle model defer = unheard (loadCycle c)
+-- the work on the record of channel n, with the board's model and defer flag, and the lent event bytes with the place in them
+abbrev pub workOn : Channel → ℕ → Work → PitType → Bool → List ℕ → ℕ → WorkDone
+workOn c n (work.Write x) model defer events place = changed n c (writeByte c x defer) events place
+workOn c n work.Latch model defer events place = changed n c (latchCount c) events place
+workOn c n (work.SetMode word) model defer events place = changed n c (setMode c word model) events place
+workOn c n (work.SetGate level) model defer events place = changed n c (setGate c level) events place
+workOn c n work.Read model defer events place = readDone (readByte c) events
+workOn c n (work.Counts number) model defer events place = unheard (times number count c) events
+workOn c n work.LoadCycle model defer events place = unheard (loadCycle c) events
 
 -- the work on its channel, put back at its place
 abbrev pub workedOn : Board → ℕ → WorkDone → Outcome
@@ -107,17 +108,22 @@ timeAfter given next defers divisor remainder warp defer owed =
     (timeKept 16 remainder warp defer owed))
 
 -- put into the board's own fields
-abbrev pub timedOn : Board → TimeDone → Outcome
-timedOn b t = record { reply = t .reply; board = withTime b (t .remainder) (t .warp) (t .defer) (t .owed); events = six }
+abbrev pub timedOn : Board → TimeDone → List ℕ → Outcome
+timedOn b t events = record { reply = t .reply; board = withTime b (t .remainder) (t .warp) (t .defer) (t .owed); events = events }
 
--- what a turn comes to on a board
-abbrev pub turned : Board → Turn → Outcome
-turned b (turn.OnChannel n w) = workedOn b n (workOn (channelAt b n) n w (b .model) (b .defer))
-turned b (turn.Elapse given next defers) =
-    timedOn b (timeAfter (given .0) (next .0) defers (b .divisor) (b .remainder .0) (b .warp .0) (b .defer) (b .owed .0))
-turned b turn.Reset = record { reply = accepted done; board = restored b; events = six }
-turned b (turn.WorkOff stated) = inSix (workOff b stated six 0)
-turned b (turn.Say answer) = record { reply = replyOf answer; board = b; events = six }
+-- an outcome with other event bytes beside it: those of a call that does not look at them
+abbrev pub withEvents : List ℕ → Outcome → Outcome
+withEvents events o = record { reply = o .reply; board = o .board; events = events }
+
+-- what a turn comes to on a board, with the lent event bytes and the place in them
+abbrev pub turned : Board → Turn → List ℕ → ℕ → Outcome
+turned b (turn.OnChannel n w) events place = workedOn b n (workOn (channelAt b n) n w (b .model) (b .defer) events place)
+turned b (turn.Elapse given next defers) events place =
+    timedOn b (timeAfter (given .0) (next .0) defers (b .divisor) (b .remainder .0) (b .warp .0) (b .defer) (b .owed .0)) events
+turned b turn.Reset events place = record { reply = accepted done; board = restored b; events = events }
+turned b (turn.WorkOff stated) events place = workOff b stated events place
+turned b turn.Untouched events place = untouched b events place
+turned b (turn.Say answer) events place = record { reply = replyOf answer; board = b; events = events }
 
 -- a turn's channel is one of the board's
 abbrev pub OnBoard : Turn → Type 0
@@ -125,9 +131,31 @@ OnBoard (turn.OnChannel n w) = n < 3
 OnBoard (turn.Elapse given next defers) = Unit
 OnBoard turn.Reset = Unit
 OnBoard (turn.WorkOff stated) = Unit
+OnBoard turn.Untouched = Unit
 OnBoard (turn.Say answer) = Unit
 
--- what the code answers for a new record's event; the new record stands, since two bytes are enough for every event
+-- the bytes that a trace lends to a turn, at place 0
+abbrev pub lentTo : Turn → List ℕ
+lentTo (turn.OnChannel n w) = lent
+lentTo (turn.Elapse given next defers) = lent
+lentTo turn.Reset = lent
+lentTo (turn.WorkOff stated) = six
+lentTo turn.Untouched = lent
+lentTo (turn.Say answer) = lent
+
+-- what a turn of a trace comes to, with the lent bytes after it in six places
+abbrev pub turnedInSix : Board → Turn → Outcome
+turnedInSix b t = inSix (turned b t (lentTo t) 0)
+
+-- .. and work on a channel
+abbrev pub doneInSix : WorkDone → WorkDone
+doneInSix w = record { reply = w .reply; channel = w .channel; events = padded (w .events) }
+
+-- what the code answers for the work on a channel, with the lent bytes at its end
+abbrev pub workDone : Done → List ℕ → WorkDone
+workDone r events = record { reply = replyOf (r .answer); channel = r .channel; events = events }
+
+-- .. for a new record's event in a trace; the new record stands, since two bytes are enough for every event
 abbrev pub raised : Raised → Channel → WorkDone
 raised r new = record { reply = replyOf (r .answer); channel = new; events = r .events }
 

@@ -1,5 +1,5 @@
 // An operation with its port or channel found. What is refused without a look at the board is refused here, and what is refused while ticks are owed: of the board
-// only that is asked.
+// only that is asked. The operations of a trace and those of a host are found by the same functions.
 use board::Answer;
 use channel::ControlWord;
 use control::Command;
@@ -9,12 +9,9 @@ use refusal::Refusal;
 use time::SystemTicks;
 use trace::operation::Operation;
 ghost use mathlib.Core.Path.{_≡_};
-ghost use mathlib.Core.Bool.{Bool, false};
-ghost use Rattle.board.specs.declared.Board.{Board};
-ghost use Rattle.trace.specs.declared.operation.Operation.the-variants as recorded;
-ghost use Rattle.turn.specs.Made.{make};
-ghost use Rattle.turn.specs.Finding.{turnOf, Finds};
-ghost use Rattle.turn.specs.Turn.{owes, turned, OnBoard};
+ghost use Rattle.control.specs.Control.{commandOf};
+ghost use Rattle.ports.specs.Port.{portOf};
+ghost use Rattle.turn.specs.Finding.{commandTurn, writeTurn, readTurn, gateTurn, countsTurn, loadCycleTurn, resetTurn, turnOf, Finds};
 
 // What is done to one channel.
 pub enum Work {
@@ -35,6 +32,8 @@ pub enum Turn {
     Reset,
     // How many owed ticks to work off at most.
     WorkOff(u32),
+    // A command that does nothing; only the place in the event bytes is looked at.
+    Untouched,
     // The board stays as it is.
     Say(Answer),
 }
@@ -45,25 +44,25 @@ fn refuse(refusal: Refusal) -> Turn
     Turn::Say(Answer::Refused(refusal))
 }
 
-// A byte to the command port where no tick is owed. The command is opened as document 01 names it: a mode set carries its fields, a latch its channel, nothing
-// returns early.
+// The command is opened as document 01 names it: a mode set carries its fields, a latch its channel, nothing returns early.
 fn command_turn(byte: u8) -> Turn
-    ensures { λ r. ⌜ Finds false (recorded.WritePort 0x43 byte) r ⌝ }
+    ensures { λ r. ⌜ Finds (commandTurn (commandOf byte)) r ⌝ }
 {
     let command = control::command_of(byte);
     let Command::SetMode(n, word) = command else {
         let Command::LatchCount(n) = command else {
-            return Turn::Say(Answer::Place(0));
+            return Turn::Untouched;
         };
         return Turn::OnChannel(n, Work::Latch);
     };
     Turn::OnChannel(n, Work::SetMode(word))
 }
 
-fn write_turn(port: u8, byte: u8, owing: bool) -> Turn
-    ensures { λ r. ⌜ Finds owing (recorded.WritePort port byte) r ⌝ }
+// Refusals 1 and 16.
+pub fn write_turn(port: u16, byte: u8, owing: bool) -> Turn
+    ensures { λ r. ⌜ Finds (writeTurn owing (portOf port) byte) r ⌝ }
 {
-    let known = port_of(port as u16);
+    let known = port_of(port);
     match known {
         Port::Data(n) => {
             if owing {
@@ -81,10 +80,11 @@ fn write_turn(port: u8, byte: u8, owing: bool) -> Turn
     }
 }
 
-fn read_turn(port: u8) -> Turn
-    ensures { λ r. ⌜ ((owing : Bool) → Finds owing (recorded.ReadPort port) r) ⌝ }
+// Refusal 1.
+pub fn read_turn(port: u16) -> Turn
+    ensures { λ r. ⌜ Finds (readTurn (portOf port)) r ⌝ }
 {
-    let known = port_of(port as u16);
+    let known = port_of(port);
     match known {
         Port::Data(n) => Turn::OnChannel(n as u8, Work::Read),
         Port::Command => Turn::Say(Answer::Byte(0)),
@@ -92,8 +92,9 @@ fn read_turn(port: u8) -> Turn
     }
 }
 
-fn gate_turn(channel: u8, level: bool, owing: bool) -> Turn
-    ensures { λ r. ⌜ Finds owing (recorded.SetChannelGate channel level) r ⌝ }
+// Refusals 2 and 16.
+pub fn gate_turn(channel: u16, level: bool, owing: bool) -> Turn
+    ensures { λ r. ⌜ Finds (gateTurn owing channel level) r ⌝ }
 {
     if 2 < channel {
         return refuse(Refusal::ChannelAbove2);
@@ -101,11 +102,12 @@ fn gate_turn(channel: u8, level: bool, owing: bool) -> Turn
     if owing {
         return refuse(Refusal::TicksOwed);
     }
-    Turn::OnChannel(channel, Work::SetGate(level))
+    Turn::OnChannel(channel as u8, Work::SetGate(level))
 }
 
-fn counts_turn(channel: u8, number: u32) -> Turn
-    ensures { λ r. ⌜ ((owing : Bool) → Finds owing (recorded.Counts channel number) r) ⌝ }
+// Refusals 2 and 6.
+pub fn counts_turn(channel: u16, number: u32) -> Turn
+    ensures { λ r. ⌜ Finds (countsTurn channel number) r ⌝ }
 {
     if 2 < channel {
         return refuse(Refusal::ChannelAbove2);
@@ -113,20 +115,22 @@ fn counts_turn(channel: u8, number: u32) -> Turn
     if 65536 < number {
         return refuse(Refusal::TooManyCounts);
     }
-    Turn::OnChannel(channel, Work::Counts(number))
+    Turn::OnChannel(channel as u8, Work::Counts(number))
 }
 
-fn load_cycle_turn(channel: u8) -> Turn
-    ensures { λ r. ⌜ ((owing : Bool) → Finds owing (recorded.LoadCycle channel) r) ⌝ }
+// Refusal 2.
+pub fn load_cycle_turn(channel: u16) -> Turn
+    ensures { λ r. ⌜ Finds (loadCycleTurn channel) r ⌝ }
 {
     if 2 < channel {
         return refuse(Refusal::ChannelAbove2);
     }
-    Turn::OnChannel(channel, Work::LoadCycle)
+    Turn::OnChannel(channel as u8, Work::LoadCycle)
 }
 
-fn reset_turn(owing: bool) -> Turn
-    ensures { λ r. ⌜ Finds owing recorded.Reset r ⌝ }
+// Refusal 16.
+pub fn reset_turn(owing: bool) -> Turn
+    ensures { λ r. ⌜ Finds (resetTurn owing) r ⌝ }
 {
     if owing {
         return refuse(Refusal::TicksOwed);
@@ -136,14 +140,14 @@ fn reset_turn(owing: bool) -> Turn
 
 // For a board that owes ticks, or owes none. Reads, counts and load cycles are the same on both.
 pub fn turn_of(operation: Operation, owing: bool) -> Turn
-    ensures { λ r. ⌜ (r ≡ turnOf owing operation) × ((b : Board) → owes b ≡ owing → make b operation ≡ turned b r) × OnBoard r ⌝ }
+    ensures { λ r. ⌜ Finds (turnOf owing operation) r ⌝ }
 {
     match operation {
-        Operation::WritePort(port, byte) => write_turn(port, byte, owing),
-        Operation::ReadPort(port) => read_turn(port),
-        Operation::SetChannelGate(channel, level) => gate_turn(channel, level, owing),
-        Operation::Counts(channel, number) => counts_turn(channel, number),
-        Operation::LoadCycle(channel) => load_cycle_turn(channel),
+        Operation::WritePort(port, byte) => write_turn(port as u16, byte, owing),
+        Operation::ReadPort(port) => read_turn(port as u16),
+        Operation::SetChannelGate(channel, level) => gate_turn(channel as u16, level, owing),
+        Operation::Counts(channel, number) => counts_turn(channel as u16, number),
+        Operation::LoadCycle(channel) => load_cycle_turn(channel as u16),
         Operation::CatchUp(ticks) => Turn::Elapse(ticks, ticks, true),
         Operation::Run(ticks) => Turn::Elapse(ticks, SystemTicks(0), false),
         Operation::Reset => reset_turn(owing),

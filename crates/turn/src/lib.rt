@@ -1,15 +1,17 @@
-// Recorded operations on a board.
+// Operations on a board, found and then done to the part of the board that they are about: no board goes in or out.
 //
-// making.rt has one operation by value, for a reader and a single caller. Three more are its parts for a runner that owns a board and changes it where it stands:
-// no board goes in or out. finding.rt finds an operation's port or channel, raising.rt the event of a channel's new record, elapsing.rt the board's time after a
-// catch-up or a run. Ticks are worked off by `owed`.
+// finding.rt finds an operation's port or channel, working.rt has the work on one channel, elapsing.rt the board's time after a catch-up or a run; ticks are worked off
+// by `owed`. They serve a board in a host's bytes and a runner that owns a board, which takes the event of a channel's new record from raising.rt. making.rt has one operation of a
+// trace by value, for a reader and a single caller.
 pub mod elapsing;
 pub mod finding;
 pub mod making;
 mod padding;
 pub mod raising;
+pub mod working;
 
 pub use elapsing::elapse;
 pub use finding::turn_of;
 pub use making::make;
 pub use raising::raise;
+pub use working::work_on;

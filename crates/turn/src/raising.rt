@@ -4,7 +4,8 @@ use board::Answer;
 use channel::Channel;
 use event::Placed;
 ghost use mathlib.Core.Path.{_≡_};
-ghost use Rattle.turn.specs.Turn.{changed, raised};
+ghost use Rattle.turn.specs.Asked.{lent};
+ghost use Rattle.turn.specs.Turn.{changed, doneInSix, raised};
 
 // The new place, and the two lent bytes after the event, in six places.
 pub struct Raised {
@@ -13,7 +14,7 @@ pub struct Raised {
 }
 
 pub fn raise(n: u8, old: Channel, new: Channel) -> Raised
-    ensures { λ r. ⌜ changed n old new ≡ raised r new ⌝ }
+    ensures { λ r. ⌜ doneInSix (changed n old new lent 0) ≡ raised r new ⌝ }
 {
     let was = old.pins;
     let is = new.pins;

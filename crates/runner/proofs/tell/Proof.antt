@@ -18,9 +18,12 @@ use Rattle.trace.proofs.Found.{in-sound}
 use Rattle.turn.specs.Made.{inSix}
 use Rattle.turn.specs.declared.finding.Work.{Work}
 use Rattle.turn.specs.declared.finding.Turn.the-variants.{OnChannel}
-use Rattle.turn.specs.Turn.{WorkDone, changed, readDone, unheard, workOn, workedOn, timedOn, turned, OnBoard}
+use Rattle.turn.specs.Asked.{lent}
+use Rattle.turn.specs.Turn.{WorkDone, TimeDone, changed, readDone, unheard, workOn, workedOn, timedOn, turnedInSix, doneInSix, OnBoard}
 use Rattle.turn.proofs.Padded.{six-padded}
-use Rattle.turn.proofs.Room.{latch-unheard}
+use Rattle.turn.proofs.Room.{latch-unheard, nothing-unheard}
+use Rattle.turn.proofs.Recorded.{turn-made}
+use Rattle.latch.specs.declared.reading.ByteRead.{ByteRead}
 use Rattle.runner.specs.Printed.{roomOf, saidOf}
 use Rattle.runner.proofs.Turns.{Running, begun, goes-on, ended}
 use Rattle.runner.proofs.tell.Statement.{statement}
@@ -46,7 +49,7 @@ abbrev turn : (t : Turned) → tie.At-loop Inv-loop μ-loop
 turn t = t .before .before .before .before .before
 
 -- the turn's outcome, and what is said of it, carry the loop on
-next : (t : Turned) (outcome : Outcome) → turned (turn t .loop .b) (t .turn-of .result) ≡ outcome → (at₁ : ℕ) (out₁ : List ℕ)
+next : (t : Turned) (outcome : Outcome) → turnedInSix (turn t .loop .b) (t .turn-of .result) ≡ outcome → (at₁ : ℕ) (out₁ : List ℕ)
     → (answered at₁ out₁ ≡ put (saidOf (start t .args .form) (start t .args .first + turn t .loop .j) outcome) (turn t .loop .out) (turn t .loop .at))
     × (length (saidOf (start t .args .form) (start t .args .first + turn t .loop .j) outcome) ≤ roomOf (start t .args .form))
     → Inv-loop (start t .args .form) (now (start t .args .trace)) (start t .args .first) (start t .args .number) (now (start t .args .out)) (start t .args .place) (start t .args .start) (start t .args .place) 0 out₁ (outcome .board) at₁ (turn t .loop .j + 1)
@@ -59,7 +62,7 @@ next t outcome comes at₁ out₁ said =
           (t .before .before .before .operation-in .result)
           (λ p e. t .before .before .before .operation-in .ensures ∙ in-sound (now (a .trace)) (a .first + l .j) p e)
           outcome
-          (t .turn-of .ensures .1 (l .b) refl ∙ comes)
+          (turn-made (l .b) (t .before .before .before .operation-in .result) ∙ ap (turnedInSix (l .b)) (sym (t .turn-of .ensures .0)) ∙ comes)
           at₁
           out₁
           (said .0)
@@ -70,21 +73,21 @@ less : (t : Turned) → start t .args .number - (turn t .loop .j + 1) < start t 
 less t = omega (arith, t .before .before .before .before .loop-test .taken)
 
 on-board : (c : tie.After-known-told Inv-loop μ-loop) → c .before .turn .given .0 .0 < 3
-on-board c = subst OnBoard (c .before .turn .given .1) (c .before .before .before .turn-of .ensures .2)
+on-board c = subst OnBoard (c .before .turn .given .1) (c .before .before .before .turn-of .ensures .1)
 
 -- work on a channel, and what it comes to
 worked : (t : Turned) (n : ℕ) (w : Work) → t .turn-of .result ≡ OnChannel n w → (v : Work) → w ≡ v → (made : WorkDone)
-    → workOn (channelAt (turn t .loop .b) n) n v (turn t .loop .b .model) (turn t .loop .b .defer) ≡ made
-    → turned (turn t .loop .b) (t .turn-of .result) ≡ workedOn (turn t .loop .b) n made
+    → doneInSix (workOn (channelAt (turn t .loop .b) n) n v (turn t .loop .b .model) (turn t .loop .b .defer) lent 0) ≡ made
+    → turnedInSix (turn t .loop .b) (t .turn-of .result) ≡ workedOn (turn t .loop .b) n made
 worked t n w is v same made comes =
     let b = turn t .loop .b in
-    ap (turned b) is ∙ ap (λ (u : Work). turned b (OnChannel n u)) same ∙ ap (workedOn b n) comes
+    ap (turnedInSix b) is ∙ ap (λ (u : Work). turnedInSix b (OnChannel n u)) same ∙ ap (workedOn b n) comes
 
 -- a byte written to a data port
 loop-again : tie.Need-loop-again Inv-loop μ-loop
 loop-again c =
     let t = c .before .before .before .before .before .before .before .before .before .before .before .before .before .before .before in
-    next t _ (worked t _ _ (c .before .before .before .before .before .before .before .before .before .before .before .before .before .turn .given .1) _ (c .before .before .before .before .before .before .before .before .before .before .work .given .1) _ (ap (λ (d : Channel). changed (c .before .before .before .before .before .before .before .before .before .before .before .before .before .turn .given .0 .0) (channelAt (turn t .loop .b) (c .before .before .before .before .before .before .before .before .before .before .before .before .before .turn .given .0 .0)) d) (sym (c .before .before .before .before .before .before .before .write-byte .ensures)) ∙ c .before .before .before .before .before .before .raise .ensures)) _ _ (c .before .before .say .ensures)
+    next t _ (worked t _ _ (c .before .before .before .before .before .before .before .before .before .before .before .before .before .turn .given .1) _ (c .before .before .before .before .before .before .before .before .before .before .work .given .1) _ (ap (λ (d : Channel). doneInSix (changed (c .before .before .before .before .before .before .before .before .before .before .before .before .before .turn .given .0 .0) (channelAt (turn t .loop .b) (c .before .before .before .before .before .before .before .before .before .before .before .before .before .turn .given .0 .0)) d lent 0)) (sym (c .before .before .before .before .before .before .before .write-byte .ensures)) ∙ c .before .before .before .before .before .before .raise .ensures)) _ _ (c .before .before .say .ensures)
 
 -- a latch raises no event
 loop-again-2 : tie.Need-loop-again-2 Inv-loop μ-loop
@@ -96,38 +99,38 @@ loop-again-2 c =
 loop-again-3 : tie.Need-loop-again-3 Inv-loop μ-loop
 loop-again-3 c =
     let t = c .before .before .before .before .before .before .before .before .before .before .before .before .before .before .before in
-    next t _ (worked t _ _ (c .before .before .before .before .before .before .before .before .before .before .before .before .before .turn .given .1) _ (c .before .before .before .before .before .before .before .before .before .before .work2 .given .1) _ (ap (λ (d : Channel). changed (c .before .before .before .before .before .before .before .before .before .before .before .before .before .turn .given .0 .0) (channelAt (turn t .loop .b) (c .before .before .before .before .before .before .before .before .before .before .before .before .before .turn .given .0 .0)) d) (sym (c .before .before .before .before .before .before .before .set-mode .ensures)) ∙ c .before .before .before .before .before .before .raise2 .ensures)) _ _ (c .before .before .say3 .ensures)
+    next t _ (worked t _ _ (c .before .before .before .before .before .before .before .before .before .before .before .before .before .turn .given .1) _ (c .before .before .before .before .before .before .before .before .before .before .work2 .given .1) _ (ap (λ (d : Channel). doneInSix (changed (c .before .before .before .before .before .before .before .before .before .before .before .before .before .turn .given .0 .0) (channelAt (turn t .loop .b) (c .before .before .before .before .before .before .before .before .before .before .before .before .before .turn .given .0 .0)) d lent 0)) (sym (c .before .before .before .before .before .before .before .set-mode .ensures)) ∙ c .before .before .before .before .before .before .raise2 .ensures)) _ _ (c .before .before .say3 .ensures)
 
 -- a level at a gate
 loop-again-4 : tie.Need-loop-again-4 Inv-loop μ-loop
 loop-again-4 c =
     let t = c .before .before .before .before .before .before .before .before .before .before .before .before .before .before .before in
-    next t _ (worked t _ _ (c .before .before .before .before .before .before .before .before .before .before .before .before .before .turn .given .1) _ (c .before .before .before .before .before .before .before .before .before .before .work3 .given .1) _ (ap (λ (d : Channel). changed (c .before .before .before .before .before .before .before .before .before .before .before .before .before .turn .given .0 .0) (channelAt (turn t .loop .b) (c .before .before .before .before .before .before .before .before .before .before .before .before .before .turn .given .0 .0)) d) (sym (c .before .before .before .before .before .before .before .set-gate .ensures)) ∙ c .before .before .before .before .before .before .raise3 .ensures)) _ _ (c .before .before .say4 .ensures)
+    next t _ (worked t _ _ (c .before .before .before .before .before .before .before .before .before .before .before .before .before .turn .given .1) _ (c .before .before .before .before .before .before .before .before .before .before .work3 .given .1) _ (ap (λ (d : Channel). doneInSix (changed (c .before .before .before .before .before .before .before .before .before .before .before .before .before .turn .given .0 .0) (channelAt (turn t .loop .b) (c .before .before .before .before .before .before .before .before .before .before .before .before .before .turn .given .0 .0)) d lent 0)) (sym (c .before .before .before .before .before .before .before .set-gate .ensures)) ∙ c .before .before .before .before .before .before .raise3 .ensures)) _ _ (c .before .before .say4 .ensures)
 
 -- a read
 loop-again-5 : tie.Need-loop-again-5 Inv-loop μ-loop
 loop-again-5 c =
     let t = c .before .before .before .before .before .before .before .before .before .before .before .before .before in
-    next t _ (worked t _ _ (c .before .before .before .before .before .before .before .before .before .before .before .turn .given .1) _ (c .before .before .before .before .before .before .before .before .enum-told2 .given .1) _ (ap readDone (sym (c .before .before .before .before .before .before .read-byte .ensures)))) _ _ (c .before .before .say5 .ensures)
+    next t _ (worked t _ _ (c .before .before .before .before .before .before .before .before .before .before .before .turn .given .1) _ (c .before .before .before .before .before .before .before .before .enum-told2 .given .1) _ (ap (λ (r : ByteRead). doneInSix (readDone r lent)) (sym (c .before .before .before .before .before .before .read-byte .ensures)))) _ _ (c .before .before .say5 .ensures)
 
 -- counts
 loop-again-6 : tie.Need-loop-again-6 Inv-loop μ-loop
 loop-again-6 c =
     let t = c .before .before .before .before .before .before .before .before .before .before .before .before .before in
-    next t _ (worked t _ _ (c .before .before .before .before .before .before .before .before .before .before .before .turn .given .1) _ (c .before .before .before .before .before .before .before .before .work4 .given .1) _ (ap unheard (sym (c .before .before .before .before .before .counts .ensures)))) _ _ (c .before .before .say6 .ensures)
+    next t _ (worked t _ _ (c .before .before .before .before .before .before .before .before .before .before .before .turn .given .1) _ (c .before .before .before .before .before .before .before .before .work4 .given .1) _ (ap (λ (d : Channel). doneInSix (unheard d lent)) (sym (c .before .before .before .before .before .counts .ensures)))) _ _ (c .before .before .say6 .ensures)
 
 -- a load cycle
 loop-again-7 : tie.Need-loop-again-7 Inv-loop μ-loop
 loop-again-7 c =
     let t = c .before .before .before .before .before .before .before .before .before .before .before .before in
-    next t _ (worked t _ _ (c .before .before .before .before .before .before .before .before .before .before .turn .given .1) _ (c .before .before .before .before .before .before .before .enum-told3 .given .1) _ (ap unheard (sym (c .before .before .before .before .before .load-cycle .ensures)))) _ _ (c .before .before .say7 .ensures)
+    next t _ (worked t _ _ (c .before .before .before .before .before .before .before .before .before .before .turn .given .1) _ (c .before .before .before .before .before .before .before .enum-told3 .given .1) _ (ap (λ (d : Channel). doneInSix (unheard d lent)) (sym (c .before .before .before .before .before .load-cycle .ensures)))) _ _ (c .before .before .say7 .ensures)
 
 -- a catch-up or a run
 loop-again-8 : tie.Need-loop-again-8 Inv-loop μ-loop
 loop-again-8 c =
     let t = c .before .before .before .before .before .before .before .before .before .before .before .before .before in
     let b = turn t .loop .b in
-    next t _ (ap (turned b) (c .before .before .before .before .before .before .before .before .before .before .before .turn2 .given .1) ∙ ap (timedOn b) (sym (c .before .before .before .before .before .before .before .elapse .ensures))) _ _ (c .before .before .say8 .ensures)
+    next t _ (ap (turnedInSix b) (c .before .before .before .before .before .before .before .before .before .before .before .turn2 .given .1) ∙ ap (λ (r : TimeDone). inSix (timedOn b r lent)) (sym (c .before .before .before .before .before .before .before .elapse .ensures))) _ _ (c .before .before .say8 .ensures)
 
 -- a reset
 loop-again-9 : tie.Need-loop-again-9 Inv-loop μ-loop
@@ -135,7 +138,7 @@ unfolding restored
 loop-again-9 c =
     let t = c .before .before .before .before .before .before .before .before .before .before .before .before .before in
     let b = turn t .loop .b in
-    next t _ (ap (turned b) (c .before .before .before .before .before .before .before .before .before .before .before .enum-told4 .given .1) ∙ simp (c .before .before .before .before .before .before .before .reset .ensures, c .before .before .before .before .before .before .reset2 .ensures, c .before .before .before .before .before .reset3 .ensures)) _ _ (c .before .before .say9 .ensures)
+    next t _ (ap (turnedInSix b) (c .before .before .before .before .before .before .before .before .before .before .before .enum-told4 .given .1) ∙ simp (c .before .before .before .before .before .before .before .reset .ensures, c .before .before .before .before .before .before .reset2 .ensures, c .before .before .before .before .before .reset3 .ensures)) _ _ (c .before .before .say9 .ensures)
 
 -- ticks worked off: all six lent bytes are told
 loop-again-10 : tie.Need-loop-again-10 Inv-loop μ-loop
@@ -146,14 +149,21 @@ loop-again-10 c =
     let lent = made .last .1 .1 .0 in
     let long : length lent ≡ 6 = search needs in
     let told = ap {B = Outcome} (λ (events : List ℕ). record { reply = replyOf (made .result .answer); board = made .result .board; events = events }) (six-padded lent long) in
-    next t _ (ap (turned b) (c .before .before .before .before .before .before .before .before .before .before .turn3 .given .1) ∙ ap inSix (sym (made .ensures)) ∙ told) _ _ (c .before .before .say10 .ensures)
+    next t _ (ap (turnedInSix b) (c .before .before .before .before .before .before .before .before .before .before .turn3 .given .1) ∙ ap inSix (sym (made .ensures)) ∙ told) _ _ (c .before .before .say10 .ensures)
 
 -- what leaves the board as it is
 loop-again-11 : tie.Need-loop-again-11 Inv-loop μ-loop
 loop-again-11 c =
     let t = c .before .before .before .before .before .before .before .before in
     let b = turn t .loop .b in
-    next t _ (ap (turned b) (c .before .before .before .before .before .before .turn4 .given .1)) _ _ (c .before .before .say11 .ensures)
+    next t _ (ap (turnedInSix b) (c .before .before .before .before .before .before .turn4 .given .1)) _ _ (c .before .before .say11 .ensures)
+
+-- a command that does nothing
+loop-again-12 : tie.Need-loop-again-12 Inv-loop μ-loop
+loop-again-12 c =
+    let t = c .before .before .before .before .before .before .before in
+    let b = turn t .loop .b in
+    next t _ (ap (turnedInSix b) (c .before .before .before .before .before .enum-told5 .given .1) ∙ nothing-unheard b) _ _ (c .before .before .say12 .ensures)
 
 returns : tie.Need-returns Inv-loop μ-loop
 returns c =
@@ -267,5 +277,9 @@ tell-spec =
     (λ c κs. search needs)
     (λ c. less (c .before .before .before .before .before .before .before .before))
     loop-again-11
+    (λ c. search needs)
+    (λ c κs. search needs)
+    (λ c. less (c .before .before .before .before .before .before .before))
+    loop-again-12
     (λ c. c .before .loop .inv .1 .same-length)
     returns)

@@ -1,22 +1,27 @@
 -- `turn::finding::command_turn` meets its contract. Assumes nothing.
-use mathlib.Core.Path.{sym, _∙_}
+use mathlib.Core.Path.{sym, ap, _∙_}
 use native.Mathlib.Omega.{arith}
-use borrow.Author.Needs.{needs}
+use Rattle.control.proofs.Named.{named-below}
 use Rattle.control.proofs.Opened.{nothing-left}
-use Rattle.turn.proofs.Turn.{nothing-turn, latch-turn, mode-turn}
+use Rattle.turn.specs.Finding.{commandTurn}
+use borrow.Author.Needs.{needs}
 use Rattle.turn.proofs.finding.command_turn.Statement.{statement}
 use Rattle.turn.proofs.finding.command_turn.Tie as tie
 
 returns : tie.Need-returns
 returns c =
     let asked = c .before .before .command-of in
-    nothing-turn _ (sym (asked .ensures) ∙ nothing-left (asked .result) (c .before .match .keys2) (c .match2 .keys2))
+    (sym (ap commandTurn (sym (asked .ensures) ∙ nothing-left (asked .result) (c .before .match .keys2) (c .match2 .keys2))), tt)
 
 returns-2 : tie.Need-returns-2
-returns-2 c = latch-turn _ _ (omega arith) (sym (c .before .before .before .before .command-of .ensures) ∙ c .before .command2 .given .1)
+returns-2 c =
+    let is = sym (c .before .before .before .before .command-of .ensures) ∙ c .before .command2 .given .1 in
+    (sym (ap commandTurn is), named-below _ (omega arith) _ is)
 
 returns-3 : tie.Need-returns-3
-returns-3 c = mode-turn _ _ _ (omega arith) (sym (c .before .before .before .command-of .ensures) ∙ c .before .command .given .1)
+returns-3 c =
+    let is = sym (c .before .before .before .command-of .ensures) ∙ c .before .command .given .1 in
+    (sym (ap commandTurn is), named-below _ (omega arith) _ is)
 
 pub command-turn-spec : {M : Type 1} → statement M
 command-turn-spec =

@@ -1,17 +1,19 @@
 -- `turn::finding::counts_turn` meets its contract. Assumes nothing.
+use mathlib.Core.Path.{refl}
+use native.Mathlib.Omega.{arith}
+use borrow.Author.Tests.{lt-ltb, le-ltb}
 use borrow.Author.Needs.{needs}
-use Rattle.turn.proofs.Turn.{counts-turn, too-many, counts-above}
 use Rattle.turn.proofs.finding.counts_turn.Statement.{statement}
 use Rattle.turn.proofs.finding.counts_turn.Tie as tie
 
 returns : tie.Need-returns
-returns c owing = rw (c .refuse .ensures) (counts-above _ (c .before .if1 .taken) _ owing)
+returns c = rw (c .refuse .ensures, lt-ltb _ _ (c .before .if1 .taken)) (refl, tt)
 
 returns-2 : tie.Need-returns-2
-returns-2 c owing = rw (c .refuse2 .ensures) (too-many _ (c .before .before .if1 .left) _ (c .before .if2 .taken) owing)
+returns-2 c = rw (c .refuse2 .ensures, le-ltb _ _ (c .before .before .if1 .left), lt-ltb _ _ (c .before .if2 .taken)) (refl, tt)
 
 returns-3 : tie.Need-returns-3
-returns-3 c owing = counts-turn _ (c .before .if1 .left) _ (c .if2 .left) owing
+returns-3 c = rw (le-ltb _ _ (c .before .if1 .left), le-ltb _ _ (c .if2 .left)) (refl, omega arith)
 
 pub counts-turn-spec : {M : Type 1} → statement M
 counts-turn-spec =
@@ -21,4 +23,5 @@ counts-turn-spec =
     returns
     (λ c κs. search needs)
     returns-2
+    (λ c. search needs)
     returns-3)

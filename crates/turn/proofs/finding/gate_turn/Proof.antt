@@ -1,17 +1,19 @@
 -- `turn::finding::gate_turn` meets its contract. Assumes nothing.
+use mathlib.Core.Path.{refl}
+use native.Mathlib.Omega.{arith}
+use borrow.Author.Tests.{lt-ltb, le-ltb}
 use borrow.Author.Needs.{needs}
-use Rattle.turn.proofs.Turn.{gate-turn, gate-owed, gate-above}
 use Rattle.turn.proofs.finding.gate_turn.Statement.{statement}
 use Rattle.turn.proofs.finding.gate_turn.Tie as tie
 
 returns : tie.Need-returns
-returns c = rw (c .refuse .ensures) (gate-above _ (c .before .if1 .taken) _ _)
+returns c = rw (c .refuse .ensures, lt-ltb _ _ (c .before .if1 .taken)) (refl, tt)
 
 returns-2 : tie.Need-returns-2
-returns-2 c = rw (c .before .if2 .taken) (rw (c .refuse2 .ensures) (gate-owed _ (c .before .before .if1 .left) _))
+returns-2 c = rw (c .refuse2 .ensures, le-ltb _ _ (c .before .before .if1 .left), c .before .if2 .taken) (refl, tt)
 
 returns-3 : tie.Need-returns-3
-returns-3 c = rw (c .if2 .left) (gate-turn _ (c .before .if1 .left) _)
+returns-3 c = rw (le-ltb _ _ (c .before .if1 .left), c .if2 .left) (refl, omega arith)
 
 pub gate-turn-spec : {M : Type 1} → statement M
 gate-turn-spec =
@@ -21,4 +23,5 @@ gate-turn-spec =
     returns
     (λ c κs. search needs)
     returns-2
+    (λ c. search needs)
     returns-3)

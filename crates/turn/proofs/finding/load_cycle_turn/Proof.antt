@@ -1,14 +1,16 @@
 -- `turn::finding::load_cycle_turn` meets its contract. Assumes nothing.
+use mathlib.Core.Path.{refl}
+use native.Mathlib.Omega.{arith}
+use borrow.Author.Tests.{lt-ltb, le-ltb}
 use borrow.Author.Needs.{needs}
-use Rattle.turn.proofs.Turn.{load-cycle-turn, load-cycle-above}
 use Rattle.turn.proofs.finding.load_cycle_turn.Statement.{statement}
 use Rattle.turn.proofs.finding.load_cycle_turn.Tie as tie
 
 returns : tie.Need-returns
-returns c owing = rw (c .refuse .ensures) (load-cycle-above _ (c .before .if1 .taken) owing)
+returns c = rw (c .refuse .ensures, lt-ltb _ _ (c .before .if1 .taken)) (refl, tt)
 
 returns-2 : tie.Need-returns-2
-returns-2 c owing = load-cycle-turn _ (c .if1 .left) owing
+returns-2 c = rw (le-ltb _ _ (c .if1 .left)) (refl, omega arith)
 
 pub load-cycle-turn-spec : {M : Type 1} → statement M
 load-cycle-turn-spec =
@@ -16,4 +18,5 @@ load-cycle-turn-spec =
     (tie.spec
     (λ c κs. search needs)
     returns
+    (λ c. search needs)
     returns-2)

@@ -1,14 +1,11 @@
 -- `turn::finding::reset_turn` meets its contract. Assumes nothing.
+use mathlib.Core.Path.{refl}
 use borrow.Author.Needs.{needs}
-use Rattle.turn.proofs.Turn.{reset-turn, reset-owed}
 use Rattle.turn.proofs.finding.reset_turn.Statement.{statement}
 use Rattle.turn.proofs.finding.reset_turn.Tie as tie
 
 returns : tie.Need-returns
-returns c = rw (c .before .if1 .taken) (rw (c .refuse .ensures) reset-owed)
-
-returns-2 : tie.Need-returns-2
-returns-2 c = rw (c .if1 .left) reset-turn
+returns c = rw (c .refuse .ensures, c .before .if1 .taken) (refl, tt)
 
 pub reset-turn-spec : {M : Type 1} → statement M
 reset-turn-spec =
@@ -16,4 +13,4 @@ reset-turn-spec =
     (tie.spec
     (λ c κs. search needs)
     returns
-    returns-2)
+    (λ c. search needs))
