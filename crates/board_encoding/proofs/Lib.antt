@@ -1,5 +1,5 @@
-pub mod Opened
 pub mod Filled
 pub mod Length
 pub mod Back
 pub mod Only
+pub mod Standing

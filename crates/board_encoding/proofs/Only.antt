@@ -54,17 +54,17 @@ own false true c b e = absurd (not-none b e)
 own false false c b e = (refl, refl, ap (λ (l : BoardLoaded). l .board) e)
 
 module _ (bytes : List ℕ) (all : (p : ℕ) → getD bytes p 0 < 256) where
-  four : (p : ℕ) → fourBytes (numberAt bytes p) ≡ getD bytes p 0 ∷ getD bytes (p + 1) 0 ∷ getD bytes (p + 2) 0 ∷ getD bytes (p + 2 + 1) 0 ∷ []
+  pub four : (p : ℕ) → fourBytes (numberAt bytes p) ≡ getD bytes p 0 ∷ getD bytes (p + 1) 0 ∷ getD bytes (p + 2) 0 ∷ getD bytes (p + 2 + 1) 0 ∷ []
   unfolding numberAt
   four p = four-of _ _ _ _ (all p) (all (p + 1)) (all (p + 2)) (all (p + 2 + 1))
 
-  own-spelled : (c0 c1 c2 : Channel) → getD bytes 87 0 ≤ 1 → getD bytes 100 0 ≤ 1 → ownBytes (boardOf c0 c1 c2 bytes) ≡ spelled bytes 87 18
+  pub own-spelled : (c0 c1 c2 : Channel) → getD bytes 87 0 ≤ 1 → getD bytes 100 0 ≤ 1 → ownBytes (boardOf c0 c1 c2 bytes) ≡ spelled bytes 87 18
   unfolding boardOf
   own-spelled c0 c1 c2 model defer =
       λ i. model-number-back (getD bytes 87 0) model i ∷ four 88 i ++ four 92 i ++ four 96 i ++ flag-only (getD bytes 100 0) defer i ∷ four 101 i
 
   -- the record at a place
-  record-form : (place : ℕ) (c : Channel) → recordAt bytes place ≡ record-loaded.Whole c → channelBytes c ≡ take 29 (drop place bytes)
+  pub record-form : (place : ℕ) (c : Channel) → recordAt bytes place ≡ record-loaded.Whole c → channelBytes c ≡ take 29 (drop place bytes)
   record-form place c e = record-bytes (take 29 (drop place bytes)) c e ∙ take-take 29 29 (drop place bytes) (omega arith)
 
   in-parts : take 105 bytes ≡ take 29 bytes ++ take 29 (drop 29 bytes) ++ take 29 (drop 58 bytes) ++ take 18 (drop 87 bytes)

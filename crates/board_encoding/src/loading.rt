@@ -1,14 +1,11 @@
-// A board out of its 105 bytes, where they are readable.
+// Which of a board's 105 bytes are readable, and what loading a board finds.
 use board::Board;
-use channel::Channel;
-use channel::PitType;
-use encoding::loading::Loaded;
-use time::SystemTicks;
-use time::TimerTicks;
+ghost use mathlib.Core.Bool.{_&&_};
 ghost use mathlib.Core.Path.{_≡_};
 ghost use Prim.Native.Nat.{_≤_};
 ghost use lib.ListN.{length};
-ghost use Rattle.board_encoding.specs.Loaded.{none, ownReadable, boardOf, loadBoard};
+ghost use Rattle.board_encoding.specs.Loaded.{ownReadable};
+ghost use Rattle.board_encoding.specs.Parts.{boardReadable};
 
 // What loading a board finds.
 pub enum Found {
@@ -19,19 +16,11 @@ pub enum Found {
     Unreadable,
 }
 
-// Beside anything but a whole board stands the fresh 8253 with divisor 0, whose time calls are all refused. An enum that carries the board
-// would be the plainer form; the prover's walk does not cover an enum that holds an array.
+// What the definition of loading speaks of. No function makes one: a call looks at the bytes where they stand (parts.rt). Beside anything but a whole board stands the fresh
+// 8253 with divisor 0, whose time calls are all refused. An enum that carries the board would be the plainer form; the prover's walk does not cover an enum that holds an array.
 pub struct BoardLoaded {
     pub found: Found,
     pub board: Board,
-}
-
-fn none(found: Found) -> BoardLoaded
-    ensures { λ r. ⌜ r ≡ none found ⌝ }
-{
-    let made = Board::new(PitType::Model8253, 0);
-    let board = made.board;
-    BoardLoaded { found, board }
 }
 
 // The bytes of the board's model and defer flag.
@@ -48,52 +37,20 @@ fn own_readable(bytes: &[u8]) -> bool
     true
 }
 
-// Three records, and what the board itself holds.
-fn board_of(c0: Channel, c1: Channel, c2: Channel, bytes: &[u8]) -> Board
-    requires { ⌜ 105 ≤ length (now bytes) ⌝ }
-    ensures { λ r. ⌜ r ≡ boardOf c0 c1 c2 (now (bytes .entry)) ⌝ }
+fn both(a: bool, b: bool) -> bool
+    ensures { λ r. ⌜ r ≡ (a && b) ⌝ }
 {
-    let channels = [c0, c1, c2];
-    let model = PitType::numbered(bytes[87] as u32);
-    let divisor = numbers::number_at(bytes, 88);
-    let remainder = SystemTicks(numbers::number_at(bytes, 92));
-    let warp = SystemTicks(numbers::number_at(bytes, 96));
-    let owed = TimerTicks(numbers::number_at(bytes, 101));
-    Board {
-        channels,
-        model,
-        divisor,
-        remainder,
-        warp,
-        defer: bytes[100] == 1,
-        owed,
-    }
+    if a { b } else { false }
 }
 
-pub fn load_board(bytes: &[u8]) -> BoardLoaded
-    ensures { λ r. ⌜ r ≡ loadBoard (now (bytes .entry)) ⌝ }
+// All 105 bytes are looked at, whatever part of them a call is about.
+pub fn board_readable(bytes: &[u8]) -> bool
+    requires { ⌜ 105 ≤ length (now bytes) ⌝ }
+    ensures { λ r. ⌜ r ≡ boardReadable (now (bytes .entry)) ⌝ }
 {
-    if bytes.len() < 105 {
-        return none(Found::Short);
-    }
-    let first = encoding::load_channel(&bytes[0..29]);
-    let Loaded::Whole(c0) = first else {
-        return none(Found::Unreadable);
-    };
-    let second = encoding::load_channel(&bytes[29..58]);
-    let Loaded::Whole(c1) = second else {
-        return none(Found::Unreadable);
-    };
-    let third = encoding::load_channel(&bytes[58..87]);
-    let Loaded::Whole(c2) = third else {
-        return none(Found::Unreadable);
-    };
-    if own_readable(bytes) {
-        let board = board_of(c0, c1, c2, bytes);
-        return BoardLoaded {
-            found: Found::Whole,
-            board,
-        };
-    }
-    none(Found::Unreadable)
+    let first = encoding::loading::readable(&bytes[0..29]);
+    let second = encoding::loading::readable(&bytes[29..58]);
+    let third = encoding::loading::readable(&bytes[58..87]);
+    let own = own_readable(bytes);
+    both(both(first, second), both(third, own))
 }

@@ -55,13 +55,14 @@ const LIMITS: [u8; 29] = [
     1,
 ];
 
-fn readable(bytes: &[u8]) -> bool
+pub fn readable(bytes: &[u8]) -> bool
     requires { ⌜ 29 ≤ length (now bytes) ⌝ }
     ensures { λ r. ⌜ r ≡ readable (now (bytes .entry)) ⌝ }
 {
+    let limits = LIMITS;
     let mut i = 0;
     while i < 29 {
-        if LIMITS[i] < bytes[i] {
+        if limits[i] < bytes[i] {
             return false;
         }
         i += 1;
@@ -146,7 +147,7 @@ fn pins_at(bytes: &[u8]) -> Pins
     }
 }
 
-fn channel_at(bytes: &[u8]) -> Channel
+pub fn channel_at(bytes: &[u8]) -> Channel
     requires { ⌜ 29 ≤ length (now bytes) ⌝ }
     ensures { λ r. ⌜ r ≡ channelAt (now (bytes .entry)) ⌝ }
 {

@@ -12,10 +12,10 @@ use Rattle.encoding.proofs.loading.readable.Statement.{statement}
 use Rattle.encoding.proofs.loading.readable.Tie as tie
 
 abbrev Inv-loop : tie.InvT-loop
-Inv-loop bytes i₀ i = (i ≤ 29) × (readableTo i bytes ≡ true)
+Inv-loop bytes limits i₀ i = (i ≤ 29) × (readableTo i bytes ≡ true)
 
 abbrev μ-loop : tie.MeasureT-loop
-μ-loop bytes i₀ i = 29 - i
+μ-loop bytes limits i₀ i = 29 - i
 
 loop-holds : tie.Need-loop-holds Inv-loop μ-loop
 unfolding readableTo

@@ -1,0 +1,13 @@
+-- `board_encoding::parts::remainder_in` meets its contract. Assumes nothing.
+use borrow.Author.Needs.{needs}
+use Rattle.board_encoding.specs.Loaded.{boardOf}
+use Rattle.board_encoding.specs.Parts.{boardIn}
+use Rattle.board_encoding.proofs.parts.remainder_in.Statement.{statement}
+use Rattle.board_encoding.proofs.parts.remainder_in.Tie as tie
+
+returns : tie.Need-returns
+unfolding boardIn boardOf
+returns c = simp (c .number-at .ensures)
+
+pub remainder-in-spec : {M : Type 1} → statement M
+remainder-in-spec = tie.close (tie.spec (λ c κs. search needs) returns)

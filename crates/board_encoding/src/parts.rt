@@ -1,0 +1,123 @@
+// The parts of a board in its bytes, read and written where they stand: a call that changes one channel moves 29 bytes and not 105.
+use channel::Channel;
+use channel::PitType;
+use time::SystemTicks;
+use time::TimerTicks;
+ghost use mathlib.Core.Path.{_≡_};
+ghost use mathlib.Core.List.{[], _∷_};
+ghost use Prim.Native.Nat.{_<_};
+ghost use Rattle.board.specs.Board.{channelAt, withChannel, withTime};
+ghost use Rattle.board_encoding.specs.Parts.{boardIn, Holds, stored, timeBytes, ticked};
+
+pub fn channel_in(bytes: &[u8], n: usize) -> Channel
+    requires { ⌜ n < 3 ⌝ }
+    requires { ⌜ Holds (now bytes) ⌝ }
+    ensures { λ r. ⌜ r ≡ channelAt (boardIn (now (bytes .entry))) n ⌝ }
+{
+    let from = 29 * n;
+    let to = from + 29;
+    encoding::loading::channel_at(&bytes[from..to])
+}
+
+pub fn model_in(bytes: &[u8]) -> PitType
+    requires { ⌜ Holds (now bytes) ⌝ }
+    ensures { λ r. ⌜ r ≡ boardIn (now (bytes .entry)) .model ⌝ }
+{
+    PitType::numbered(bytes[87] as u32)
+}
+
+pub fn divisor_in(bytes: &[u8]) -> u32
+    requires { ⌜ Holds (now bytes) ⌝ }
+    ensures { λ r. ⌜ r ≡ boardIn (now (bytes .entry)) .divisor ⌝ }
+{
+    numbers::number_at(bytes, 88)
+}
+
+pub fn remainder_in(bytes: &[u8]) -> SystemTicks
+    requires { ⌜ Holds (now bytes) ⌝ }
+    ensures { λ r. ⌜ r ≡ boardIn (now (bytes .entry)) .remainder ⌝ }
+{
+    SystemTicks(numbers::number_at(bytes, 92))
+}
+
+pub fn warp_in(bytes: &[u8]) -> SystemTicks
+    requires { ⌜ Holds (now bytes) ⌝ }
+    ensures { λ r. ⌜ r ≡ boardIn (now (bytes .entry)) .warp ⌝ }
+{
+    SystemTicks(numbers::number_at(bytes, 96))
+}
+
+pub fn defer_in(bytes: &[u8]) -> bool
+    requires { ⌜ Holds (now bytes) ⌝ }
+    ensures { λ r. ⌜ r ≡ boardIn (now (bytes .entry)) .defer ⌝ }
+{
+    bytes[100] == 1
+}
+
+pub fn owed_in(bytes: &[u8]) -> TimerTicks
+    requires { ⌜ Holds (now bytes) ⌝ }
+    ensures { λ r. ⌜ r ≡ boardIn (now (bytes .entry)) .owed ⌝ }
+{
+    TimerTicks(numbers::number_at(bytes, 101))
+}
+
+pub fn put_channel(bytes: &mut [u8], n: usize, c: Channel)
+    requires { ⌜ n < 3 ⌝ }
+    requires { ⌜ Holds (now bytes) ⌝ }
+    ensures { λ _. ⌜ now (bytes .exit) ≡ stored (withChannel (boardIn (now (bytes .entry))) n c) (now (bytes .entry)) ⌝ }
+{
+    let part = encoding::channel_bytes(c);
+    text::put(bytes, 29 * n, &part);
+}
+
+// The three records and the owed ticks: what a reset and ticks worked off change.
+pub fn put_channels(bytes: &mut [u8], c0: Channel, c1: Channel, c2: Channel, owed: TimerTicks)
+    requires { ⌜ Holds (now bytes) ⌝ }
+    ensures { λ _. ⌜ now (bytes .exit) ≡ stored (ticked (boardIn (now (bytes .entry))) (c0 ∷ c1 ∷ c2 ∷ []) (owed .0)) (now (bytes .entry)) ⌝ }
+{
+    let first = encoding::channel_bytes(c0);
+    let second = encoding::channel_bytes(c1);
+    let third = encoding::channel_bytes(c2);
+    let last = encoding::four_bytes(owed.0);
+    let mut place = text::put(bytes, 0, &first);
+    place = text::put(bytes, place, &second);
+    text::put(bytes, place, &third);
+    text::put(bytes, 101, &last);
+}
+
+fn time_bytes(remainder: SystemTicks, warp: SystemTicks, defer: bool, owed: TimerTicks) -> [u8; 13]
+    ensures { λ r. ⌜ r ≡ timeBytes (remainder .0) (warp .0) defer (owed .0) ⌝ }
+{
+    let r = encoding::four_bytes(remainder.0);
+    let w = encoding::four_bytes(warp.0);
+    let o = encoding::four_bytes(owed.0);
+    [
+        r[0],
+        r[1],
+        r[2],
+        r[3],
+        w[0],
+        w[1],
+        w[2],
+        w[3],
+        numbers::flag_byte(defer),
+        o[0],
+        o[1],
+        o[2],
+        o[3],
+    ]
+}
+
+pub fn put_time(
+    bytes: &mut [u8],
+    remainder: SystemTicks,
+    warp: SystemTicks,
+    defer: bool,
+    owed: TimerTicks,
+)
+    requires { ⌜ Holds (now bytes) ⌝ }
+    ensures { λ _. ⌜ now (bytes .exit) ≡ stored (withTime (boardIn (now (bytes .entry))) (remainder .0) (warp .0) defer (owed .0)) (now (bytes .entry)) ⌝ }
+{
+    let part = time_bytes(remainder, warp, defer, owed);
+    text::put(bytes, 92, &part);
+}
