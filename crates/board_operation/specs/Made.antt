@@ -5,15 +5,12 @@ use mathlib.Core.List.{List}
 use Rattle.numbers.specs.Flags.{flagNumber}
 use Rattle.refusal.specs.Reply.{Reply, refused, accepted}
 use Rattle.board.specs.declared.Board.{Board}
-use Rattle.board.specs.declared.Answer.{Answer}
-use Rattle.board.specs.Answer.{replyOf}
 use Rattle.board.specs.Outcome.{Outcome, Value, done, newPlace, byte, ticks, outputState, channelCount, retriggers, dirtyMarks, timerAccum, worked}
 use Rattle.step.specs.Operation as call
 use Rattle.step.specs.Step.{step}
 use Rattle.board_operation.specs.declared.Operation.{Operation}
 use Rattle.board_operation.specs.declared.Operation.the-variants.{WritePort, ReadPort, SetChannelGate, Counts, LoadCycle, CatchUp, Run, Reset, GetOutputState, GetChannelCount, DoesChannelRetrigger, IsDirty, GetTimerAccum, WorkOff}
 use Rattle.board_operation.specs.declared.making.Numbers.{Numbers}
-use Rattle.board_operation.specs.declared.making.Made.{Made}
 
 -- the call of the board
 abbrev pub asked : Operation → List ℕ → ℕ → call.Operation
@@ -80,11 +77,3 @@ inNumbers op events o = record { numbers = numbersOf (o .reply); board = o .boar
 
 unfoldable pub operate : Board → Operation → List ℕ → ℕ → Outcome-in-numbers
 operate b op events place = inNumbers op events (step b (asked op events place))
-
--- what the code answers, with the lent bytes at its end
-abbrev pub made : Made → List ℕ → Outcome-in-numbers
-made m events = record { numbers = m .numbers; board = m .board; events = events }
-
--- an answer in numbers, with the board beside it
-abbrev pub madeOf : Answer → Board → Made
-madeOf answer b = record { numbers = numbersOf (replyOf answer); board = b }

@@ -3,7 +3,8 @@ pub mod asked;
 pub mod making;
 
 pub use asked::operation_of;
-pub use making::operate;
+pub use making::numbers_of;
+pub use making::saying;
 use time::SystemTicks;
 
 // A port and a byte; a channel with a level or a number; ticks; a channel; how many ticks to work off.

@@ -14,4 +14,5 @@ pub use elapsing::elapse;
 pub use finding::turn_of;
 pub use making::make;
 pub use raising::raise;
+pub use working::untouched;
 pub use working::work_on;

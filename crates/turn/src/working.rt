@@ -4,8 +4,12 @@ use crate::finding::Work;
 use board::Answer;
 use channel::Channel;
 use channel::PitType;
+use event::Event;
 use event::Placed;
 ghost use mathlib.Core.Path.{_≡_};
+ghost use Rattle.board.specs.declared.Board.{Board};
+ghost use Rattle.board.specs.Answer.{replyOf};
+ghost use Rattle.ports.specs.Settle.{untouched};
 ghost use Rattle.turn.specs.Turn.{changed, workOn, workDone};
 
 // The record after the work: where the event is refused, the record before it.
@@ -31,6 +35,17 @@ fn settle(n: u8, old: Channel, new: Channel, events: &mut [u8], place: usize) ->
             answer: Answer::Refused(refusal),
             channel: old,
         },
+    }
+}
+
+// A command that does nothing. Refusal 7 is given all the same.
+pub fn untouched(events: &mut [u8], place: usize) -> Answer
+    ensures { λ r. ⌜ ((b : Board) → record { reply = replyOf r; board = b; events = now (events .exit) } ≡ untouched b (now (events .entry)) place) ⌝ }
+{
+    let placed = event::place_event(events, place, Event::Unchanged);
+    match placed {
+        Placed::At(at) => Answer::Place(at),
+        Placed::Refused(refusal) => Answer::Refused(refusal),
     }
 }
 
