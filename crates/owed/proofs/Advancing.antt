@@ -11,7 +11,7 @@ use Rattle.channel.specs.declared.PitType.{PitType}
 use Rattle.channel.proofs.Pick.{pick-holds, pick-knowing}
 use Rattle.tick.specs.Tick.{tick}
 use Rattle.quiet.specs.Quiet.{quiet, skip}
-use Rattle.quiet.proofs.Skipped.{skip-is-ticks, quiet-output}
+use Rattle.quiet.proofs.ManyTicks.{skip-is-ticks, quiet-output}
 use Rattle.owed.specs.Told.{smaller}
 use Rattle.owed.specs.Advanced.{alike, passed, Advanced}
 
