@@ -11,6 +11,7 @@ use Rattle.numbers.specs.Times.{times}
 use Rattle.channel.specs.declared.Channel.{Channel}
 use Rattle.channel.specs.Blank.{blank}
 use Rattle.tick.specs.Tick.{tick}
+use Rattle.quiet.specs.Quiet.{skip}
 use Rattle.event.specs.declared.Event.{Event}
 use Rattle.event.specs.declared.Event.the-variants.{Unchanged}
 use Rattle.event.specs.Event.{eventOf}
@@ -18,27 +19,16 @@ use Rattle.event.proofs.Room.{standing-level}
 use Rattle.board.specs.declared.Board.{Board}
 use Rattle.board.specs.Board.{channelAt}
 use Rattle.owed.specs.BoardTick.{boardTick, tickEvent}
+use Rattle.owed.specs.Ticked.{owing}
+use Rattle.owed.specs.Alike.{Skips}
 use Rattle.owed.specs.Worked.{Room, put, size, needed, Work, oneMore, stops, workOn}
 
-three-are : (xs : List Channel) → length xs ≡ 3 → xs ≡ getD xs 0 blank ∷ getD xs 1 blank ∷ getD xs 2 blank ∷ []
+pub three-are : (xs : List Channel) → length xs ≡ 3 → xs ≡ getD xs 0 blank ∷ getD xs 1 blank ∷ getD xs 2 blank ∷ []
 three-are [] three = absurd (omega arith)
 three-are (x ∷ []) three = absurd (omega arith)
 three-are (x ∷ y ∷ []) three = absurd (omega arith)
 three-are (x ∷ y ∷ z ∷ []) three = refl
 three-are (x ∷ y ∷ z ∷ w ∷ xs) three = absurd (omega arith)
-
--- the board with these channels, and so many ticks owed
-abbrev pub owing : Board → ℕ → List Channel → Board
-owing b owed channels =
-    record {
-      channels = channels;
-      model = b .model;
-      divisor = b .divisor;
-      remainder = b .remainder;
-      warp = b .warp;
-      defer = b .defer;
-      owed = record { 0 = owed };
-    }
 
 -- a channel of the board, so many ticks later
 abbrev pub laterAt : Board → ℕ → ℕ → Channel
@@ -125,3 +115,24 @@ run-at-once (suc k) left w three still few owed =
     run-at-once k left w three (λ n small j under. still n small j (omega arith)) (omega arith) (omega arith)
     ∙ rw one (simp (step .0))
     ∙ ap (workOn (left - suc k)) (step .1)
+
+-- a run that all three channels skip
+module _ (k : ℕ) (c₀ c₁ c₂ : Channel) (s₀ : Skips k c₀) (s₁ : Skips k c₁) (s₂ : Skips k c₂) (b : Board) (owed : ℕ) where
+  abbrev before : Board
+  before = owing b owed (c₀ ∷ c₁ ∷ c₂ ∷ [])
+
+  skips-still : Still before k
+  skips-still zero small = s₀ .still (b .model)
+  skips-still (suc zero) small = s₁ .still (b .model)
+  skips-still (suc (suc zero)) small = s₂ .still (b .model)
+  skips-still (suc (suc (suc n))) small = absurd (omega arith)
+
+  skips-ticked : times k boardTick before ≡ owing b (owed - k) (skip k c₀ ∷ skip k c₁ ∷ skip k c₂ ∷ [])
+  skips-ticked = ticks-are k before refl ∙ sym (simp (s₀ .ticked (b .model), s₁ .ticked (b .model), s₂ .ticked (b .model)))
+
+  pub skips-at-once : (left made : ℕ) (room : Room) → k ≤ left → k ≤ owed
+      → workOn left (record { made = made; board = before; room = room })
+      ≡ workOn (left - k) (record { made = made + k; board = owing b (owed - k) (skip k c₀ ∷ skip k c₁ ∷ skip k c₂ ∷ []); room = room })
+  skips-at-once left made room few owes =
+      run-at-once k left (record { made = made; board = before; room = room }) refl skips-still few owes
+      ∙ ap (λ (d : Board). workOn (left - k) (record { made = made + k; board = d; room = room })) skips-ticked
