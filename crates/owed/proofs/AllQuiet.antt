@@ -2,7 +2,7 @@
 use Prim.Native.Nat.{ℕ, _+_, _-_, _<_, _≤_}
 use mathlib.Core.List.{List, [], _∷_}
 use mathlib.Core.Logic.{_⊎_, inl, inr}
-use mathlib.Core.Path.{_≡_, refl, sym, ap, _∙_}
+use mathlib.Core.Path.{_≡_, sym, ap, _∙_}
 use native.Mathlib.Omega.{arith}
 use lib.Dec.{ltb}
 use lib.ListN.{length}
@@ -13,8 +13,8 @@ use Rattle.channel.proofs.Pick.{pick-holds}
 use Rattle.quiet.specs.Quiet.{skip}
 use Rattle.refusal.specs.Reply.{accepted}
 use Rattle.board.specs.declared.Board.{Board}
-use Rattle.board.specs.Outcome.{worked, Outcome}
-use Rattle.owed.specs.Worked.{Work, workOn, begun, report, workOff}
+use Rattle.board.specs.Outcome.{worked}
+use Rattle.owed.specs.Worked.{workOn, begun, report, workOff}
 use Rattle.owed.specs.Told.{smaller}
 use Rattle.owed.specs.Ticked.{Has, owing}
 use Rattle.owed.specs.Alike.{alike, Alike, quietRun, QuietRun}

@@ -2,14 +2,14 @@
 -- Assumes nothing.
 use Prim.Native.Nat.{ℕ, _+_, _-_}
 use mathlib.Core.List.{[], _∷_}
-use mathlib.Core.Path.{_≡_, sym, ap, ap₂, _∙_}
+use mathlib.Core.Path.{_≡_, sym, ap, _∙_}
 use Rattle.channel.specs.declared.Channel.{Channel}
 use Rattle.channel.specs.declared.PitType.{PitType}
 use Rattle.tick.specs.Tick.{tick}
 use Rattle.event.specs.declared.Event.{Event}
 use Rattle.event.specs.Event.{eventOf}
 use Rattle.board.specs.declared.Board.{Board}
-use Rattle.owed.specs.BoardTick.{boardTick, tickEvent}
+use Rattle.owed.specs.BoardTick.{boardTick}
 use Rattle.owed.specs.Ticked.{owing}
 use Rattle.owed.specs.Worked.{Room, put, size, needed, putAll}
 

@@ -231,23 +231,20 @@ pub fn quiet_run(c0: Channel, c1: Channel, c2: Channel, owed: TimerTicks, stated
 pub fn work_off(b: Board, stated: u32, events: &mut [u8], place: usize) -> Answered
     ensures { λ r. ⌜ outcome r (now (events .exit)) ≡ workOff b stated (now (events .entry)) place ⌝ }
 {
-    let c0 = b.channels[0];
-    let c1 = b.channels[1];
-    let c2 = b.channels[2];
-    let model = b.model;
-    let owed = b.owed;
+    let mut board = b;
+    let c0 = board.channels[0];
+    let c1 = board.channels[1];
+    let c2 = board.channels[2];
+    let model = board.model;
+    let owed = board.owed;
     let t = work_channels(c0, c1, c2, model, owed, stated, events, place);
     let t0 = t.c0;
     let t1 = t.c1;
     let t2 = t.c2;
+    let channels = [t0, t1, t2];
     let left = t.owed;
     let answer = t.answer;
-    let channels = [t0, t1, t2];
-    let mut board = b;
     board.channels = channels;
     board.owed = left;
-    Answered {
-        answer,
-        board,
-    }
+    Answered { answer, board }
 }

@@ -1,6 +1,5 @@
 -- `owed::work_on` meets its contract. Assumes nothing.
 use Prim.Native.Nat.{_+_, _-_, _<_, _≤_}
-use mathlib.Core.Path.{_∙_}
 use native.Mathlib.Omega.{arith}
 use lib.ListN.{length}
 use borrow.Author.Needs.{needs}
@@ -31,7 +30,7 @@ same-length c = c .before .before .before .loop .inv .same-length
 returns : tie.Need-returns Inv-loop μ-loop
 returns c =
     let l = c .before .before .before .loop in
-    λ b has. c .worked .ensures b (l .events) ∙ none-owed (l .inv) (c .before .before .loop-test .taken) (c .before .if1 .taken) b has
+    λ b has. rw (c .worked .ensures b (l .events)) (none-owed (l .inv) (c .before .before .loop-test .taken) (c .before .if1 .taken) b has)
 
 -- a turn of the loop that knows how many ticks it may skip
 abbrev Asked : Type 0
@@ -93,7 +92,7 @@ returns-2 c =
     let l = turn q .loop in
     let short : length (l .events) - l .at < size (z .before .before .before .before .before .tick-event .result) + size (z .before .before .before .before .tick-event2 .result) + size (z .before .before .before .tick-event3 .result) =
     omega (arith, c .before .if3 .taken, z .before .before .size .ensures, z .before .size2 .ensures, z .size3 .ensures) in
-    λ b has. c .worked2 .ensures b (l .events) ∙ too-full (l .inv) (going q) (q .before .if1 .left) (first z) (second z) (third z) short b has
+    λ b has. rw (c .worked2 .ensures b (l .events)) (too-full (l .inv) (going q) (q .before .if1 .left) (first z) (second z) (third z) short b has)
 
 put-events-requires : tie.Need-put-events-requires Inv-loop μ-loop
 put-events-requires c κs =
@@ -167,7 +166,7 @@ same-length-3 c = c .before .before .loop .inv .same-length
 returns-3 : tie.Need-returns-3 Inv-loop μ-loop
 returns-3 c =
     let l = c .before .before .loop in
-    λ b has. c .worked3 .ensures b (l .events) ∙ all-made (l .inv) (c .before .loop-test .left) b has
+    λ b has. rw (c .worked3 .ensures b (l .events)) (all-made (l .inv) (c .before .loop-test .left) b has)
 
 pub work-on-spec : {M : Type 1} → statement M
 work-on-spec =
