@@ -86,7 +86,7 @@ fn decimal_steps(element: u16, number: u32) -> u16
 }
 
 // In binary that many steps are one subtraction that goes round.
-fn steps_in(bcd: bool, element: u16, number: u32) -> u16
+pub fn steps_in(bcd: bool, element: u16, number: u32) -> u16
     ensures { λ r. ⌜ r ≡ times number (stepIn bcd) element ⌝ }
 {
     if bcd {
@@ -96,7 +96,7 @@ fn steps_in(bcd: bool, element: u16, number: u32) -> u16
     }
 }
 
-fn followed_by(number: u32, l: Latch, element: u16) -> Latch
+pub fn followed_by(number: u32, l: Latch, element: u16) -> Latch
     ensures { λ r. ⌜ r ≡ followedBy number l element ⌝ }
 {
     if number == 0 {
@@ -105,7 +105,7 @@ fn followed_by(number: u32, l: Latch, element: u16) -> Latch
     l.follow(element)
 }
 
-fn ticked_by(number: u32, ticked: bool) -> bool
+pub fn ticked_by(number: u32, ticked: bool) -> bool
     ensures { λ r. ⌜ r ≡ tickedBy number ticked ⌝ }
 {
     if number == 0 {

@@ -1,6 +1,6 @@
 -- So many ticks of the board: what they leave of it, and that a run of them which moves no output is made in one step. Assumes nothing.
 use Prim.Native.Nat.{ℕ, zero, suc, _+_, _-_, _<_, _≤_}
-use mathlib.Core.Bool.{Bool, true, false}
+use mathlib.Core.Bool.{Bool, false}
 use mathlib.Core.List.{List, [], _∷_}
 use mathlib.Core.Path.{_≡_, refl, sym, ap, ap₂, _∙_}
 use native.Mathlib.Nat.{add-zero, sub-zero}
@@ -11,6 +11,7 @@ use Rattle.numbers.specs.Times.{times}
 use Rattle.channel.specs.declared.Channel.{Channel}
 use Rattle.channel.specs.Blank.{blank}
 use Rattle.tick.specs.Tick.{tick}
+use Rattle.quiet.specs.Quiet.{skip}
 use Rattle.event.specs.declared.Event.{Event}
 use Rattle.event.specs.declared.Event.the-variants.{Unchanged}
 use Rattle.event.specs.Event.{eventOf}
@@ -18,37 +19,26 @@ use Rattle.event.proofs.Room.{standing-level}
 use Rattle.board.specs.declared.Board.{Board}
 use Rattle.board.specs.Board.{channelAt}
 use Rattle.owed.specs.BoardTick.{boardTick, tickEvent}
+use Rattle.owed.specs.Ticked.{owing}
+use Rattle.owed.specs.Alike.{Skips}
 use Rattle.owed.specs.Worked.{Room, put, size, needed, Work, oneMore, stops, workOn}
 
-three-are : (xs : List Channel) → length xs ≡ 3 → xs ≡ getD xs 0 blank ∷ getD xs 1 blank ∷ getD xs 2 blank ∷ []
+pub three-are : (xs : List Channel) → length xs ≡ 3 → xs ≡ getD xs 0 blank ∷ getD xs 1 blank ∷ getD xs 2 blank ∷ []
 three-are [] three = absurd (omega arith)
 three-are (x ∷ []) three = absurd (omega arith)
 three-are (x ∷ y ∷ []) three = absurd (omega arith)
 three-are (x ∷ y ∷ z ∷ []) three = refl
 three-are (x ∷ y ∷ z ∷ w ∷ xs) three = absurd (omega arith)
 
--- the board with these channels, and so many ticks owed
-abbrev pub owing : Board → ℕ → List Channel → Board
-owing b owed channels =
-    record {
-      channels = channels;
-      model = b .model;
-      divisor = b .divisor;
-      remainder = b .remainder;
-      warp = b .warp;
-      defer = b .defer;
-      owed = record { 0 = owed };
-    }
-
 -- a channel of the board, so many ticks later
-abbrev pub laterAt : Board → ℕ → ℕ → Channel
+abbrev laterAt : Board → ℕ → ℕ → Channel
 laterAt b k n = times k (tick (b .model)) (channelAt b n)
 
 abbrev allLater : Board → ℕ → List Channel
 allLater b k = laterAt b k 0 ∷ laterAt b k 1 ∷ laterAt b k 2 ∷ []
 
 -- what so many ticks leave of a board with three channels
-pub ticks-are : (k : ℕ) (b : Board) → length (b .channels) ≡ 3 → times k boardTick b ≡ owing b (b .owed .0 - k) (allLater b k)
+ticks-are : (k : ℕ) (b : Board) → length (b .channels) ≡ 3 → times k boardTick b ≡ owing b (b .owed .0 - k) (allLater b k)
 unfolding boardTick
 ticks-are zero b three = ap₂ (owing b) (sym (sub-zero (b .owed .0))) (three-are (b .channels) three)
 ticks-are (suc k) b three =
@@ -56,11 +46,8 @@ ticks-are (suc k) b three =
     ap boardTick (ticks-are k b three) ∙ ap (λ n. owing b n (allLater b (suc k))) fewer
 
 module _ (b : Board) (three : length (b .channels) ≡ 3) where
-  pub same-model : (k : ℕ) → times k boardTick b .model ≡ b .model
+  same-model : (k : ℕ) → times k boardTick b .model ≡ b .model
   same-model k = ap (λ (d : Board). d .model) (ticks-are k b three)
-
-  pub still-three : (k : ℕ) → length (times k boardTick b .channels) ≡ 3
-  still-three k = ap (λ (d : Board). length (d .channels)) (ticks-are k b three)
 
   channel-is : (k n : ℕ) → n < 3 → channelAt (times k boardTick b) n ≡ laterAt b k n
   channel-is k zero few = ap (λ (d : Board). channelAt d 0) (ticks-are k b three)
@@ -69,17 +56,17 @@ module _ (b : Board) (three : length (b .channels) ≡ 3) where
   channel-is k (suc (suc (suc n))) few = absurd (omega arith)
 
 -- no output moves in so many ticks
-abbrev pub Still : Board → ℕ → Type 0
+abbrev Still : Board → ℕ → Type 0
 Still b k = (n : ℕ) → n < 3 → (j : ℕ) → j ≤ k → laterAt b j n .pins .output ≡ channelAt b n .pins .output
 
-pub no-event : (n : ℕ) (was is : Bool) → is ≡ was → eventOf n was is ≡ Unchanged
+no-event : (n : ℕ) (was is : Bool) → is ≡ was → eventOf n was is ≡ Unchanged
 no-event n was is same = ap (eventOf n was) same ∙ standing-level n was
 
 -- a tick with no event needs no room and leaves it as it is
-pub no-size : (e₀ e₁ e₂ : Event) → e₀ ≡ Unchanged → e₁ ≡ Unchanged → e₂ ≡ Unchanged → size e₀ + size e₁ + size e₂ ≡ 0
+no-size : (e₀ e₁ e₂ : Event) → e₀ ≡ Unchanged → e₁ ≡ Unchanged → e₂ ≡ Unchanged → size e₀ + size e₁ + size e₂ ≡ 0
 no-size e₀ e₁ e₂ n₀ n₁ n₂ = simp (n₀, n₁, n₂)
 
-pub same-room : (e₀ e₁ e₂ : Event) → e₀ ≡ Unchanged → e₁ ≡ Unchanged → e₂ ≡ Unchanged → (room : Room) → put e₂ (put e₁ (put e₀ room)) ≡ room
+same-room : (e₀ e₁ e₂ : Event) → e₀ ≡ Unchanged → e₁ ≡ Unchanged → e₂ ≡ Unchanged → (room : Room) → put e₂ (put e₁ (put e₀ room)) ≡ room
 same-room e₀ e₁ e₂ n₀ n₁ n₂ room = simp (n₀, n₁, n₂)
 
 module _ (b : Board) (three : length (b .channels) ≡ 3) (k : ℕ) (still : Still b (suc k)) where
@@ -92,7 +79,7 @@ module _ (b : Board) (three : length (b .channels) ≡ 3) (k : ℕ) (still : Sti
       (ap (λ (c : Channel). c .pins .output) next ∙ still n few (suc k) (omega arith) ∙ sym (still n few k (omega arith)) ∙ sym (ap (λ (c : Channel). c .pins .output) here))
 
 -- the work after so many ticks with no event
-abbrev pub quietly : ℕ → Work → Work
+abbrev quietly : ℕ → Work → Work
 quietly k w = record { made = w .made + k; board = times k boardTick (w .board); room = w .room }
 
 -- one tick more of them
@@ -115,7 +102,7 @@ one-quietly k w three still owed =
     )
 
 -- a run of ticks with no event, made in one step
-pub run-at-once : (k left : ℕ) (w : Work) → length (w .board .channels) ≡ 3 → Still (w .board) k → k ≤ left → k ≤ w .board .owed .0
+run-at-once : (k left : ℕ) (w : Work) → length (w .board .channels) ≡ 3 → Still (w .board) k → k ≤ left → k ≤ w .board .owed .0
     → workOn left w ≡ workOn (left - k) (quietly k w)
 run-at-once zero left w three still few owed =
     ap₂ (λ (n m : ℕ). workOn n (record { made = m; board = w .board; room = w .room })) (sym (sub-zero left)) (sym (add-zero (w .made)))
@@ -125,3 +112,24 @@ run-at-once (suc k) left w three still few owed =
     run-at-once k left w three (λ n small j under. still n small j (omega arith)) (omega arith) (omega arith)
     ∙ rw one (simp (step .0))
     ∙ ap (workOn (left - suc k)) (step .1)
+
+-- a run that all three channels skip
+module _ (k : ℕ) (c₀ c₁ c₂ : Channel) (s₀ : Skips k c₀) (s₁ : Skips k c₁) (s₂ : Skips k c₂) (b : Board) (owed : ℕ) where
+  abbrev before : Board
+  before = owing b owed (c₀ ∷ c₁ ∷ c₂ ∷ [])
+
+  skips-still : Still before k
+  skips-still zero small = s₀ .still (b .model)
+  skips-still (suc zero) small = s₁ .still (b .model)
+  skips-still (suc (suc zero)) small = s₂ .still (b .model)
+  skips-still (suc (suc (suc n))) small = absurd (omega arith)
+
+  skips-ticked : times k boardTick before ≡ owing b (owed - k) (skip k c₀ ∷ skip k c₁ ∷ skip k c₂ ∷ [])
+  skips-ticked = ticks-are k before refl ∙ sym (simp (s₀ .ticked (b .model), s₁ .ticked (b .model), s₂ .ticked (b .model)))
+
+  pub skips-at-once : (left made : ℕ) (room : Room) → k ≤ left → k ≤ owed
+      → workOn left (record { made = made; board = before; room = room })
+      ≡ workOn (left - k) (record { made = made + k; board = owing b (owed - k) (skip k c₀ ∷ skip k c₁ ∷ skip k c₂ ∷ []); room = room })
+  skips-at-once left made room few owes =
+      run-at-once k left (record { made = made; board = before; room = room }) refl skips-still few owes
+      ∙ ap (λ (d : Board). workOn (left - k) (record { made = made + k; board = d; room = room })) skips-ticked

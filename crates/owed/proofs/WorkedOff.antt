@@ -147,7 +147,7 @@ worked-off b stated events place inside few =
       told = ap (λ (r : Room). r .bytes) (e .0 .room-is) ∙ ap (λ k. take place events ++ allBytes (w .made) b ++ drop k events) (sym at);
     }
 
-stays : (left : ℕ) (w : Work) → (left ≡ 0) ⊎ (w .board .owed .0 ≡ 0) → workOn left w ≡ w
+pub stays : (left : ℕ) (w : Work) → (left ≡ 0) ⊎ (w .board .owed .0 ≡ 0) → workOn left w ≡ w
 stays zero w none = refl
 stays (suc left) w none = ⊎-elim (λ (z : suc left ≡ 0). absurd (omega arith)) (λ (z : w .board .owed .0 ≡ 0). simp (eq-eqb _ _ z)) none
 

@@ -1,4 +1,5 @@
 pub mod BoardTick
 pub mod Worked
 pub mod Told
-pub mod Advanced
+pub mod Ticked
+pub mod Alike

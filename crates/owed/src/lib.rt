@@ -10,15 +10,18 @@ use event::Placed;
 use refusal::Refusal;
 use time::TimerTicks;
 ghost use mathlib.Core.Path.{_≡_};
-ghost use mathlib.Core.List.{List};
+ghost use mathlib.Core.List.{List, [], _∷_};
 ghost use Prim.Native.Nat.{ℕ, _≤_, _+_};
 ghost use lib.ListN.{length};
+ghost use Rattle.refusal.specs.Refusal.{refusalNumber};
+ghost use Rattle.board.specs.declared.Board.{Board};
+ghost use Rattle.board.specs.Outcome.{refuse};
 ghost use Rattle.board.specs.Answer.{outcome};
 ghost use Rattle.event.specs.Event.{eventOf};
-ghost use Rattle.quiet.specs.Quiet.{quiet};
 ghost use Rattle.owed.specs.Worked.{size, put, workOn, begun, report, workOff};
 ghost use Rattle.owed.specs.Told.{smaller};
-ghost use Rattle.owed.specs.Advanced.{alike, passed, Advanced};
+ghost use Rattle.owed.specs.Ticked.{Has, owing, tickedOn};
+ghost use Rattle.owed.specs.Alike.{Alike, QuietRun};
 
 // The smaller of two numbers.
 fn least(a: u32, b: u32) -> u32
@@ -30,9 +33,10 @@ fn least(a: u32, b: u32) -> u32
     a
 }
 
-// How many of the next ticks are quiet on all three channels, of those that are left and owed; it may be none.
+// How many of the next ticks are quiet on all three channels, of those that are left and owed; it may be none. The laws of quiet ticks ask for an element
+// of 16 bits; of an argument that is known, so they are drawn on here.
 fn alike(left: u32, owed: u32, c0: Channel, c1: Channel, c2: Channel) -> u32
-    ensures { λ r. ⌜ r ≡ alike left owed c0 c1 c2 ⌝ }
+    ensures { λ r. ⌜ Alike left owed c0 c1 c2 r ⌝ }
 {
     let q0 = quiet::quiet(c0);
     let q1 = quiet::quiet(c1);
@@ -43,28 +47,7 @@ fn alike(left: u32, owed: u32, c0: Channel, c1: Channel, c2: Channel) -> u32
     least(left, due)
 }
 
-// How many ticks a turn of the loop makes: those that it skips or, if it skips none, one.
-fn passed(skipped: u32) -> u32
-    ensures { λ r. ⌜ r ≡ passed skipped ⌝ }
-{
-    if skipped == 0 {
-        return 1;
-    }
-    skipped
-}
-
-// The channel after those ticks. The laws of quiet ticks ask for an element of 16 bits; of an argument that is known, so they are drawn on here.
-fn advance(c: Channel, model: PitType, skipped: u32) -> Channel
-    requires { ⌜ skipped ≤ quiet c ⌝ }
-    ensures { λ r. ⌜ Advanced model skipped c r ⌝ }
-{
-    if skipped == 0 {
-        return tick::tick(c, model);
-    }
-    quiet::skip(c, skipped)
-}
-
-// The event of a channel that ticks take from one record to another.
+// The event of a channel that a tick takes from one record to another.
 fn tick_event(n: u8, old: Channel, new: Channel) -> Event
     ensures { λ r. ⌜ r ≡ eventOf n (old .pins .output) (new .pins .output) ⌝ }
 {
@@ -105,69 +88,163 @@ fn put_events(events: &mut [u8], place: usize, e0: Event, e1: Event, e2: Event) 
     put_event(events, second, e2)
 }
 
+// What working ticks off on three channels comes to: an owner of the board puts the channels and what is owed back where they stood.
+pub struct Ticked {
+    pub answer: Answer,
+    pub c0: Channel,
+    pub c1: Channel,
+    pub c2: Channel,
+    pub owed: TimerTicks,
+}
+
 // The answer of work done.
-fn worked(board: Board, made: u32, place: usize) -> Answered
-    ensures { λ r. ⌜ ((bytes : List ℕ) → outcome r bytes ≡ report (record { made = made; board = board; room = record { bytes = bytes; place = place } })) ⌝ }
+fn worked(c0: Channel, c1: Channel, c2: Channel, owed: u32, made: u32, place: usize) -> Ticked
+    ensures { λ r. ⌜ ((b : Board) (bytes : List ℕ) → tickedOn b r bytes ≡ report (record { made = made; board = owing b owed (c0 ∷ c1 ∷ c2 ∷ []); room = record { bytes = bytes; place = place } })) ⌝ }
 {
-    Answered {
+    Ticked {
         answer: Answer::Worked(Worked {
             made: TimerTicks(made),
             place,
         }),
-        board,
+        c0,
+        c1,
+        c2,
+        owed: TimerTicks(owed),
     }
 }
 
-// One loop owns the board and changes it where it stands: nothing that a turn calls takes or hands back a board. A turn makes a run of quiet ticks in one
-// step, or a single tick with its events; the contract knows single ticks only, so it is itself the promise that the runs come to the same.
-fn work_on(b: Board, stated: u32, events: &mut [u8], place: usize) -> Answered
-    requires { ⌜ place ≤ length (now events) ⌝ }
-    ensures { λ r. ⌜ outcome r (now (events .exit)) ≡ report (workOn stated (begun b (now (events .entry)) place)) ⌝ }
+fn refused(refusal: Refusal, c0: Channel, c1: Channel, c2: Channel, owed: TimerTicks) -> Ticked
+    ensures { λ r. ⌜ ((b : Board) (bytes : List ℕ) → tickedOn b r bytes ≡ refuse (refusalNumber refusal) (owing b (owed .0) (c0 ∷ c1 ∷ c2 ∷ [])) bytes) ⌝ }
 {
-    let mut board = b;
+    Ticked {
+        answer: Answer::Refused(refusal),
+        c0,
+        c1,
+        c2,
+        owed,
+    }
+}
+
+// One loop owns the channels and changes them where they stand. A turn makes a run of quiet ticks in one step, or a single tick with its events; the
+// contract knows single ticks only, so it is itself the promise that the runs come to the same.
+fn work_on(
+    c0: Channel,
+    c1: Channel,
+    c2: Channel,
+    model: PitType,
+    owed: TimerTicks,
+    stated: u32,
+    events: &mut [u8],
+    place: usize,
+) -> Ticked
+    requires { ⌜ place ≤ length (now events) ⌝ }
+    requires { ⌜ stated ≤ 65536 ⌝ }
+    ensures { λ r. ⌜ ((b : Board) → Has b c0 c1 c2 model (owed .0) → tickedOn b r (now (events .exit)) ≡ report (workOn stated (begun b (now (events .entry)) place))) ⌝ }
+{
+    let mut d0 = c0;
+    let mut d1 = c1;
+    let mut d2 = c2;
+    let mut left = owed.0;
     let mut made: u32 = 0;
     let mut at = place;
-    let model = b.model;
     while made < stated {
-        let owed = board.owed;
-        if owed.0 == 0 {
-            return worked(board, made, at);
+        if left == 0 {
+            return worked(d0, d1, d2, left, made, at);
         }
-        let c0 = board.channels[0];
-        let c1 = board.channels[1];
-        let c2 = board.channels[2];
-        let skipped = alike(stated - made, owed.0, c0, c1, c2);
-        let t0 = advance(c0, model, skipped);
-        let t1 = advance(c1, model, skipped);
-        let t2 = advance(c2, model, skipped);
-        let e0 = tick_event(0, c0, t0);
-        let e1 = tick_event(1, c1, t1);
-        let e2 = tick_event(2, c2, t2);
-        if events.len() - at < size(e0) + size(e1) + size(e2) {
-            return worked(board, made, at);
+        let run = alike(stated - made, left, d0, d1, d2);
+        if run == 0 {
+            let t0 = tick::tick(d0, model);
+            let t1 = tick::tick(d1, model);
+            let t2 = tick::tick(d2, model);
+            let e0 = tick_event(0, d0, t0);
+            let e1 = tick_event(1, d1, t1);
+            let e2 = tick_event(2, d2, t2);
+            if events.len() - at < size(e0) + size(e1) + size(e2) {
+                return worked(d0, d1, d2, left, made, at);
+            }
+            at = put_events(events, at, e0, e1, e2);
+            d0 = t0;
+            d1 = t1;
+            d2 = t2;
+            left -= 1;
+            made += 1;
+        } else {
+            let s0 = quiet::skipped(d0, run);
+            let s1 = quiet::skipped(d1, run);
+            let s2 = quiet::skipped(d2, run);
+            d0.counter.cycles_in_state = s0.cycles_in_state;
+            d0.counter.counting_element = s0.counting_element;
+            d0.counter.ticked = s0.ticked;
+            d0.latch.output_latch = s0.output_latch;
+            d1.counter.cycles_in_state = s1.cycles_in_state;
+            d1.counter.counting_element = s1.counting_element;
+            d1.counter.ticked = s1.ticked;
+            d1.latch.output_latch = s1.output_latch;
+            d2.counter.cycles_in_state = s2.cycles_in_state;
+            d2.counter.counting_element = s2.counting_element;
+            d2.counter.ticked = s2.ticked;
+            d2.latch.output_latch = s2.output_latch;
+            left -= run;
+            made += run;
         }
-        at = put_events(events, at, e0, e1, e2);
-        board.channels[0] = t0;
-        board.channels[1] = t1;
-        board.channels[2] = t2;
-        let ticks = passed(skipped);
-        let fewer = owed.0 - ticks;
-        let left = TimerTicks(fewer);
-        board.owed = left;
-        made += ticks;
     }
-    worked(board, made, at)
+    worked(d0, d1, d2, left, made, at)
 }
 
-// At most the stated number of the ticks that are owed, each with all of its events or not at all. Refusals 7 and 15.
+// The channels of a board that owes so many ticks: at most the stated number of these, each with all of its events or not at all. Refusals 7 and 15.
+pub fn work_channels(
+    c0: Channel,
+    c1: Channel,
+    c2: Channel,
+    model: PitType,
+    owed: TimerTicks,
+    stated: u32,
+    events: &mut [u8],
+    place: usize,
+) -> Ticked
+    ensures { λ r. ⌜ ((b : Board) → Has b c0 c1 c2 model (owed .0) → tickedOn b r (now (events .exit)) ≡ workOff b stated (now (events .entry)) place) ⌝ }
+{
+    if events.len() < place {
+        return refused(Refusal::PlacePastEnd, c0, c1, c2, owed);
+    }
+    if 65536 < stated {
+        return refused(Refusal::TooManyTicks, c0, c1, c2, owed);
+    }
+    work_on(c0, c1, c2, model, owed, stated, events, place)
+}
+
+// How many ticks the call makes where they are all quiet, else 0.
+pub fn quiet_run(c0: Channel, c1: Channel, c2: Channel, owed: TimerTicks, stated: u32) -> u32
+    ensures { λ r. ⌜ QuietRun c0 c1 c2 (owed .0) stated r ⌝ }
+{
+    if 65536 < stated {
+        return 0;
+    }
+    let run = alike(stated, owed.0, c0, c1, c2);
+    if run < least(stated, owed.0) {
+        return 0;
+    }
+    run
+}
+
+// The same of a board by value.
 pub fn work_off(b: Board, stated: u32, events: &mut [u8], place: usize) -> Answered
     ensures { λ r. ⌜ outcome r (now (events .exit)) ≡ workOff b stated (now (events .entry)) place ⌝ }
 {
-    if events.len() < place {
-        return b.refuse(Refusal::PlacePastEnd);
-    }
-    if 65536 < stated {
-        return b.refuse(Refusal::TooManyTicks);
-    }
-    work_on(b, stated, events, place)
+    let mut board = b;
+    let c0 = board.channels[0];
+    let c1 = board.channels[1];
+    let c2 = board.channels[2];
+    let model = board.model;
+    let owed = board.owed;
+    let t = work_channels(c0, c1, c2, model, owed, stated, events, place);
+    let t0 = t.c0;
+    let t1 = t.c1;
+    let t2 = t.c2;
+    let channels = [t0, t1, t2];
+    let left = t.owed;
+    let answer = t.answer;
+    board.channels = channels;
+    board.owed = left;
+    Answered { answer, board }
 }

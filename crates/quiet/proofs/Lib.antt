@@ -1,8 +1,8 @@
-pub mod Parts
+pub mod Fields
 pub mod Rounds
 pub mod Fits
 pub mod Alike
 pub mod Ages
 pub mod Quietly
 pub mod QuietCount
-pub mod Skipped
+pub mod ManyTicks

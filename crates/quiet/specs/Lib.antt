@@ -1,1 +1,2 @@
 pub mod Quiet
+pub mod Skipped

@@ -1,5 +1,5 @@
 -- How many next ticks are all alike, and what that many come to: docs/TICK.md, "Many ticks at once". What follows says nothing new of the tick and
--- need not be believed: `skip-is-ticks` (proofs/Skipped.antt) finds that many ticks to be the same.
+-- need not be believed: `skip-is-ticks` (proofs/ManyTicks.antt) finds that many ticks to be the same.
 use Prim.Native.Nat.{ℕ, _-_, _*_, _/_, _%_}
 use mathlib.Core.Bool.{Bool, true, false, cond, _&&_}
 use lib.Dec.{eqb}

@@ -2,10 +2,13 @@
 use channel::Channel;
 use channel::ChannelMode;
 use channel::ChannelState;
-use tick::aged_by;
+use count::followed_by;
+use count::steps_in;
+use count::ticked_by;
 use tick::due::Kind;
 use tick::due::due;
 use tick::never_loaded;
+use tick::older;
 use tick::takes;
 ghost use Prim.Native.Nat.{_-_, _*_, _≤_};
 ghost use mathlib.Core.Path.{_≡_};
@@ -16,6 +19,7 @@ ghost use Rattle.tick.specs.Taken.{takes};
 ghost use Rattle.tick.specs.Level.{restsAt};
 ghost use Rattle.tick.specs.Tick.{agedBy};
 ghost use Rattle.quiet.specs.Quiet.{round, toZero, waitsForCycle, metAlready, untilHigh, untilLow, untilHalf, untilStrobe, quietFor, quietCounting, quietIf, quiet, skip};
+ghost use Rattle.quiet.specs.Skipped.{standing, withSkipped};
 
 fn wide(number: u16) -> u32
     ensures { λ r. ⌜ r ≡ number ⌝ }
@@ -207,41 +211,59 @@ pub fn quiet(c: Channel) -> u32
     }
 }
 
-// So many counts for each tick. They are made in equal parts: a product of the two numbers might not fit.
-fn counts_each(c: Channel, ticks: u32, each: u32) -> Channel
-    requires { ⌜ 1 ≤ each ⌝ }
-    requires { ⌜ each ≤ 3 ⌝ }
-    ensures { λ r. ⌜ r ≡ times (ticks * each) count c ⌝ }
-{
-    let once = count::counts(c, ticks);
-    if each == 1 {
-        return once;
-    }
-    let twice = count::counts(once, ticks);
-    if each == 2 {
-        return twice;
-    }
-    count::counts(twice, ticks)
+// The four fields that ticks which are all alike can move. An owner of the record puts them where they stand.
+pub struct Moved {
+    pub cycles_in_state: u32,
+    pub counting_element: u16,
+    pub ticked: bool,
+    pub output_latch: u16,
 }
 
-fn skip_counting(c: Channel, ticks: u32) -> Channel
-    ensures { λ r. ⌜ r ≡ agedBy ticks (times (ticks * takes c) count c) ⌝ }
+// The fields where nothing is counted.
+fn standing(c: Channel, cycles_in_state: u32) -> Moved
+    ensures { λ r. ⌜ r ≡ standing c «cycles_in_state» ⌝ }
 {
-    let each = takes(c);
-    let after = counts_each(c, ticks, each);
-    aged_by(after, ticks)
+    let k = c.counter;
+    let l = c.latch;
+    Moved {
+        cycles_in_state,
+        counting_element: k.counting_element,
+        ticked: k.ticked,
+        output_latch: l.output_latch,
+    }
+}
+
+fn counted(c: Channel, ticks: u32) -> Moved
+    requires { ⌜ ticks ≤ 65536 ⌝ }
+    ensures { λ r. ⌜ withSkipped c r ≡ agedBy ticks (times (ticks * takes c) count c) ⌝ }
+{
+    let w = c.control;
+    let k = c.counter;
+    let l = c.latch;
+    let number = ticks * takes(c);
+    let element = steps_in(w.bcd_mode, k.counting_element, number);
+    let latch = followed_by(number, l, element);
+    let ticked = ticked_by(number, k.ticked);
+    Moved {
+        cycles_in_state: older(ticks, k.cycles_in_state),
+        counting_element: element,
+        ticked,
+        output_latch: latch.output_latch,
+    }
 }
 
 // What that many ticks come to, where they are all alike.
-pub fn skip(c: Channel, ticks: u32) -> Channel
-    ensures { λ r. ⌜ r ≡ skip ticks c ⌝ }
+pub fn skipped(c: Channel, ticks: u32) -> Moved
+    requires { ⌜ ticks ≤ 65536 ⌝ }
+    ensures { λ r. ⌜ withSkipped c r ≡ skip ticks c ⌝ }
 {
+    let k = c.counter;
     let kind = due(c);
     match kind {
-        Kind::Idle => aged_by(c, ticks),
-        Kind::Deferred => c,
-        Kind::Load => c,
-        Kind::Reload => c,
-        Kind::Count => skip_counting(c, ticks),
+        Kind::Idle => standing(c, older(ticks, k.cycles_in_state)),
+        Kind::Deferred => standing(c, k.cycles_in_state),
+        Kind::Load => standing(c, k.cycles_in_state),
+        Kind::Reload => standing(c, k.cycles_in_state),
+        Kind::Count => counted(c, ticks),
     }
 }

@@ -17,7 +17,7 @@ ghost use Rattle.count.specs.Count.{count};
 ghost use Rattle.tick.specs.Taken.{takes};
 ghost use Rattle.tick.specs.Tick.{older, agedBy, idle, endsHalf, lingersOn, lingers, halfOver, countingOn, marked, afterCounts};
 
-fn older(ticks: u32, cycles: u32) -> u32
+pub fn older(ticks: u32, cycles: u32) -> u32
     ensures { λ r. ⌜ r ≡ older ticks cycles ⌝ }
 {
     if 4294967295 - cycles < ticks {
@@ -27,7 +27,7 @@ fn older(ticks: u32, cycles: u32) -> u32
 }
 
 // The cycles in state after that many ticks that enter none.
-pub fn aged_by(c: Channel, ticks: u32) -> Channel
+fn aged_by(c: Channel, ticks: u32) -> Channel
     ensures { λ r. ⌜ r ≡ agedBy ticks c ⌝ }
 {
     let k = c.counter;

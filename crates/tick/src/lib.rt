@@ -6,7 +6,7 @@ mod loading;
 
 use channel::Channel;
 use channel::PitType;
-pub use counting::aged_by;
+pub use counting::older;
 use due::Kind;
 pub use level::takes;
 pub use loading::never_loaded;
