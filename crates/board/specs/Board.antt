@@ -40,3 +40,7 @@ withTime b remainder warp defer owed =
       defer = defer;
       owed = record { 0 = owed };
     }
+
+-- the board with these channels, and so many ticks owed
+abbrev pub owing : Board → ℕ → List Channel → Board
+owing b owed channels = withTime (withChannels b channels) (b .remainder .0) (b .warp .0) (b .defer) owed

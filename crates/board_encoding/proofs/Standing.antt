@@ -28,7 +28,7 @@ use Rattle.board.specs.Board as board
 use Rattle.board_encoding.specs.declared.loading.Found.the-variants.{Unreadable}
 use Rattle.board_encoding.specs.Stored.{ownBytes, boardBytes}
 use Rattle.board_encoding.specs.Loaded.{none, whole, ownReadable, boardOf, recordAt, loadBoard}
-use Rattle.board_encoding.specs.Parts.{part, boardReadable, boardIn, Holds, stored, timeBytes, ticked}
+use Rattle.board_encoding.specs.Parts.{part, boardReadable, boardIn, Holds, stored, timeBytes}
 use Rattle.board_encoding.proofs.Length.{bytes-length}
 use Rattle.board_encoding.proofs.Only.{four, own-spelled, record-form}
 
@@ -190,18 +190,18 @@ module _ (bytes : List ℕ) (all : (p : ℕ) → getD bytes p 0 < 256) (h : Hold
       ap (λ n. drop (n + 18) (front ++ drop 87 bytes)) (sym len) ∙ drop-append-add front (drop 87 bytes) 18 ∙ drop-drop 18 87 bytes in
       simp (four, before, behind, append-assoc)
 
-  own-ticked : (channels : List Channel) (owed : ℕ) → ownBytes (ticked (boardIn bytes) channels owed) ≡ take 14 (drop 87 bytes) ++ fourBytes owed
+  own-ticked : (channels : List Channel) (owed : ℕ) → ownBytes (board.owing (boardIn bytes) owed channels) ≡ take 14 (drop 87 bytes) ++ fourBytes owed
   unfolding boardIn boardOf
   own-ticked channels owed = λ i. own-head i ++ fourBytes owed
 
   -- the three records and the owed ticks written
-  pub all-ticked : (c0 c1 c2 : Channel) (owed : ℕ) → stored (ticked (boardIn bytes) (c0 ∷ c1 ∷ c2 ∷ []) owed) bytes
+  pub all-ticked : (c0 c1 c2 : Channel) (owed : ℕ) → stored (board.owing (boardIn bytes) owed (c0 ∷ c1 ∷ c2 ∷ [])) bytes
       ≡ over (fourBytes owed) ((channelBytes c0 ++ channelBytes c1 ++ channelBytes c2) ++ drop 87 bytes) 101
   unfolding boardBytes
   all-ticked c0 c1 c2 owed =
       let front = channelBytes c0 ++ channelBytes c1 ++ channelBytes c2 in
       let len : length front ≡ 87 = simp (length-append, record-length.bytes-length) in
-      stored-is (ticked (boardIn bytes) (c0 ∷ c1 ∷ c2 ∷ []) owed)
+      stored-is (board.owing (boardIn bytes) owed (c0 ∷ c1 ∷ c2 ∷ []))
       ∙ ap (λ own. (channelBytes c0 ++ channelBytes c1 ++ channelBytes c2 ++ own) ++ drop 105 bytes) (own-ticked (c0 ∷ c1 ∷ c2 ∷ []) owed)
       ∙ (simp append-assoc)
       ∙ at-owed front (fourBytes owed) len refl
@@ -228,7 +228,7 @@ module _ (bytes : List ℕ) (all : (p : ℕ) → getD bytes p 0 < 256) (h : Hold
       → Wrote text bytes 0 place then
       → last ≡ fourBytes owed
       → answered r after ≡ put last then 101
-      → after ≡ stored (ticked (boardIn bytes) (c0 ∷ c1 ∷ c2 ∷ []) owed) bytes
+      → after ≡ stored (board.owing (boardIn bytes) owed (c0 ∷ c1 ∷ c2 ∷ [])) bytes
   channels-put text last then place r after is first four e =
       let long = h .long in
       let len : length text ≡ 87 = ap length is ∙ simp (length-append, record-length.bytes-length) in

@@ -8,9 +8,7 @@ use Rattle.numbers.specs.Flags.{flagNumber}
 use Rattle.numbers.specs.Little.{fourBytes}
 use Rattle.encoding.specs.Loaded.{readable, channelAt}
 use Rattle.encoding.specs.Front.{putFront}
-use Rattle.channel.specs.declared.Channel.{Channel}
 use Rattle.board.specs.declared.Board.{Board}
-use Rattle.board.specs.Board.{withChannels, withTime}
 use Rattle.board_encoding.specs.Stored.{boardBytes}
 use Rattle.board_encoding.specs.Loaded.{ownReadable, boardOf}
 
@@ -38,7 +36,3 @@ stored b bytes = putFront (boardBytes b) bytes
 -- places 92 to 104: remainder, warp, defer flag, owed ticks
 abbrev pub timeBytes : ℕ → ℕ → Bool → ℕ → List ℕ
 timeBytes remainder warp defer owed = fourBytes remainder ++ fourBytes warp ++ flagNumber defer ∷ fourBytes owed
-
--- other channels, and so many ticks owed
-abbrev pub ticked : Board → List Channel → ℕ → Board
-ticked b channels owed = withTime (withChannels b channels) (b .remainder .0) (b .warp .0) (b .defer) owed

@@ -6,8 +6,8 @@ use time::TimerTicks;
 ghost use mathlib.Core.Path.{_≡_};
 ghost use mathlib.Core.List.{[], _∷_};
 ghost use Prim.Native.Nat.{_<_};
-ghost use Rattle.board.specs.Board.{channelAt, withChannel, withTime};
-ghost use Rattle.board_encoding.specs.Parts.{boardIn, Holds, stored, timeBytes, ticked};
+ghost use Rattle.board.specs.Board.{channelAt, withChannel, withTime, owing};
+ghost use Rattle.board_encoding.specs.Parts.{boardIn, Holds, stored, timeBytes};
 
 pub fn channel_in(bytes: &[u8], n: usize) -> Channel
     requires { ⌜ n < 3 ⌝ }
@@ -73,7 +73,7 @@ pub fn put_channel(bytes: &mut [u8], n: usize, c: Channel)
 // The three records and the owed ticks: what a reset and ticks worked off change.
 pub fn put_channels(bytes: &mut [u8], c0: Channel, c1: Channel, c2: Channel, owed: TimerTicks)
     requires { ⌜ Holds (now bytes) ⌝ }
-    ensures { λ _. ⌜ now (bytes .exit) ≡ stored (ticked (boardIn (now (bytes .entry))) (c0 ∷ c1 ∷ c2 ∷ []) (owed .0)) (now (bytes .entry)) ⌝ }
+    ensures { λ _. ⌜ now (bytes .exit) ≡ stored (owing (boardIn (now (bytes .entry))) (owed .0) (c0 ∷ c1 ∷ c2 ∷ [])) (now (bytes .entry)) ⌝ }
 {
     let first = encoding::channel_bytes(c0);
     let second = encoding::channel_bytes(c1);

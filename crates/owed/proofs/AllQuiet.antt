@@ -14,9 +14,10 @@ use Rattle.quiet.specs.Quiet.{skip}
 use Rattle.refusal.specs.Reply.{accepted}
 use Rattle.board.specs.declared.Board.{Board}
 use Rattle.board.specs.Outcome.{worked}
+use Rattle.board.specs.Board.{owing}
 use Rattle.owed.specs.Worked.{workOn, begun, report, workOff}
 use Rattle.owed.specs.Told.{smaller}
-use Rattle.owed.specs.Ticked.{Has, owing}
+use Rattle.owed.specs.Ticked.{Has}
 use Rattle.owed.specs.Alike.{alike, Alike, quietRun, QuietRun}
 use Rattle.owed.proofs.Skips.{Few, alike-few}
 use Rattle.owed.proofs.Runs.{skips-at-once}

@@ -17,9 +17,8 @@ use Rattle.event.specs.declared.Event.the-variants.{Unchanged}
 use Rattle.event.specs.Event.{eventOf}
 use Rattle.event.proofs.Room.{standing-level}
 use Rattle.board.specs.declared.Board.{Board}
-use Rattle.board.specs.Board.{channelAt}
+use Rattle.board.specs.Board.{channelAt, owing}
 use Rattle.owed.specs.BoardTick.{boardTick, tickEvent}
-use Rattle.owed.specs.Ticked.{owing}
 use Rattle.owed.specs.Alike.{Skips}
 use Rattle.owed.specs.Worked.{Room, put, size, needed, Work, oneMore, stops, workOn}
 

@@ -9,8 +9,8 @@ use Rattle.tick.specs.Tick.{tick}
 use Rattle.event.specs.declared.Event.{Event}
 use Rattle.event.specs.Event.{eventOf}
 use Rattle.board.specs.declared.Board.{Board}
+use Rattle.board.specs.Board.{owing}
 use Rattle.owed.specs.BoardTick.{boardTick}
-use Rattle.owed.specs.Ticked.{owing}
 use Rattle.owed.specs.Worked.{Room, put, size, needed, putAll}
 
 -- channel n after its tick, and its event

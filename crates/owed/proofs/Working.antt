@@ -11,8 +11,9 @@ use Rattle.channel.specs.declared.PitType.{PitType}
 use Rattle.quiet.specs.Quiet.{skip}
 use Rattle.event.specs.declared.Event.{Event}
 use Rattle.board.specs.declared.Board.{Board}
+use Rattle.board.specs.Board.{owing}
 use Rattle.owed.specs.Worked.{Room, put, size, needed, Work, stops, workOn, begun, report, workOff}
-use Rattle.owed.specs.Ticked.{Has, owing}
+use Rattle.owed.specs.Ticked.{Has}
 use Rattle.owed.specs.Alike.{Skips}
 use Rattle.owed.proofs.Puts.{puts-fit}
 use Rattle.owed.proofs.Runs.{skips-at-once}

@@ -14,9 +14,10 @@ use Rattle.quiet.specs.Quiet.{quiet, skip}
 use Rattle.refusal.specs.Reply.{accepted}
 use Rattle.board.specs.declared.Board.{Board}
 use Rattle.board.specs.Outcome.{worked}
+use Rattle.board.specs.Board.{owing}
 use Rattle.owed.specs.Worked.{workOff}
 use Rattle.owed.specs.Told.{smaller}
-use Rattle.owed.specs.Ticked.{Has, owing}
+use Rattle.owed.specs.Ticked.{Has}
 
 -- "the least of what is left, what is owed and the three channels' quiet"
 abbrev pub alike : ℕ → ℕ → Channel → Channel → Channel → ℕ

@@ -5,6 +5,7 @@ use mathlib.Core.Path.{_≡_}
 use Rattle.channel.specs.declared.Channel.{Channel}
 use Rattle.channel.specs.declared.PitType.{PitType}
 use Rattle.board.specs.declared.Board.{Board}
+use Rattle.board.specs.Board.{owing}
 use Rattle.board.specs.Outcome.{Outcome}
 use Rattle.board.specs.Answer.{replyOf}
 use Rattle.owed.specs.declared.Ticked.{Ticked}
@@ -14,19 +15,6 @@ pub record Has (b : Board) (c₀ c₁ c₂ : Channel) (model : PitType) (owed : 
   pub channels-are : b .channels ≡ c₀ ∷ c₁ ∷ c₂ ∷ []
   pub model-is : b .model ≡ model
   pub owed-is : b .owed .0 ≡ owed
-
--- the board with these channels, and so many ticks owed
-abbrev pub owing : Board → ℕ → List Channel → Board
-owing b owed channels =
-    record {
-      channels = channels;
-      model = b .model;
-      divisor = b .divisor;
-      remainder = b .remainder;
-      warp = b .warp;
-      defer = b .defer;
-      owed = record { 0 = owed };
-    }
 
 -- what the code answers, put back into the board
 abbrev pub tickedOn : Board → Ticked → List ℕ → Outcome

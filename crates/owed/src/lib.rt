@@ -18,9 +18,10 @@ ghost use Rattle.board.specs.declared.Board.{Board};
 ghost use Rattle.board.specs.Outcome.{refuse};
 ghost use Rattle.board.specs.Answer.{outcome};
 ghost use Rattle.event.specs.Event.{eventOf};
+ghost use Rattle.board.specs.Board.{owing};
 ghost use Rattle.owed.specs.Worked.{size, put, workOn, begun, report, workOff};
 ghost use Rattle.owed.specs.Told.{smaller};
-ghost use Rattle.owed.specs.Ticked.{Has, owing, tickedOn};
+ghost use Rattle.owed.specs.Ticked.{Has, tickedOn};
 ghost use Rattle.owed.specs.Alike.{Alike, QuietRun};
 
 // The smaller of two numbers.

@@ -6,36 +6,22 @@ use crate::UNREADABLE_RECORD;
 use crate::answering;
 use board::Answer;
 use board::Board;
-use board_encoding::loading::Found;
 use board_operation::asked::Asked;
-use board_operation::making::Made;
 use channel::PitType;
 ghost use mathlib.Core.Path.{_≡_};
-ghost use Rattle.encoding.specs.Front.{putFront};
-ghost use Rattle.board_encoding.specs.Stored.{boardBytes};
-ghost use Rattle.pit.specs.Board.{numbersAnswer, newStatus, newAfter, called, calledOn, boardOperation};
+ghost use Rattle.board_encoding.specs.Parts.{boardIn, Holds};
+ghost use Rattle.pit.specs.Board.{newStatus, newAfter, called, calledOn, boardOperation};
 
-fn write_back(bytes: &mut [u8], answer: &mut [u8], made: Made)
-    ensures { λ _. ⌜ (now (bytes .exit) ≡ putFront (boardBytes (made .board)) (now (bytes .entry))) × (now (answer .exit) ≡ putFront (numbersAnswer (made .numbers)) (now (answer .entry))) ⌝ }
-{
-    let board = made.board;
-    let numbers = made.numbers;
-    let next = board_encoding::board_bytes(board);
-    encoding::put_front(bytes, &next);
-    let answered = answering::answer_bytes(numbers.first, numbers.second, numbers.third);
-    encoding::put_front(answer, &answered);
-}
-
-// A board that was loaded.
+// On bytes that hold a board.
 fn operation_on(
-    board: Board,
     bytes: &mut [u8],
     events: &mut [u8],
     answer: &mut [u8],
     place: usize,
     asked: Asked,
 ) -> u32
-    ensures { λ r. ⌜ called r (now (bytes .exit)) (now (events .exit)) (now (answer .exit)) ≡ calledOn board asked place (now (bytes .entry)) (now (events .entry)) (now (answer .entry)) ⌝ }
+    requires { ⌜ Holds (now bytes) ⌝ }
+    ensures { λ r. ⌜ called r (now (bytes .exit)) (now (events .exit)) (now (answer .exit)) ≡ calledOn (boardIn (now (bytes .entry))) asked place (now (bytes .entry)) (now (events .entry)) (now (answer .entry)) ⌝ }
 {
     let Asked::Known(operation) = asked else {
         return UNKNOWN_OPERATION;
@@ -43,10 +29,10 @@ fn operation_on(
     if answer.len() < 16 {
         return SHORT_ANSWER;
     }
-    let made = board_operation::operate(board, operation, events, place);
-    let numbers = made.numbers;
+    let numbers = in_bytes::operate(operation, bytes, events, place);
     if numbers.refusal == 0 {
-        write_back(bytes, answer, made);
+        let answered = answering::answer_bytes(numbers.first, numbers.second, numbers.third);
+        encoding::put_front(answer, &answered);
         return 0;
     }
     numbers.refusal as u32
@@ -64,17 +50,14 @@ pub extern "C" fn pit_board_operation(
 ) -> u32
     ensures { λ r. ⌜ called r (now (bytes .exit)) (now (events .exit)) (now (answer .exit)) ≡ boardOperation code target number place (now (bytes .entry)) (now (events .entry)) (now (answer .entry)) ⌝ }
 {
-    let loaded = board_encoding::load_board(bytes);
-    let found = loaded.found;
-    let board = loaded.board;
-    match found {
-        Found::Short => SHORT_RECORD,
-        Found::Unreadable => UNREADABLE_RECORD,
-        Found::Whole => {
-            let asked = board_operation::operation_of(code, target, number);
-            operation_on(board, bytes, events, answer, place, asked)
-        }
+    if bytes.len() < 105 {
+        return SHORT_RECORD;
     }
+    if board_encoding::board_readable(bytes) {
+        let asked = board_operation::operation_of(code, target, number);
+        return operation_on(bytes, events, answer, place, asked);
+    }
+    UNREADABLE_RECORD
 }
 
 #[no_mangle]

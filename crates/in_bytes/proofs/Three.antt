@@ -1,0 +1,12 @@
+-- A board in bytes has three channels. Assumes nothing.
+use Prim.Native.Nat.{ℕ}
+use mathlib.Core.List.{List, [], _∷_}
+use mathlib.Core.Path.{_≡_, refl}
+use Rattle.channel.specs.declared.Channel.{Channel}
+use Rattle.board.specs.Board.{channelAt}
+use Rattle.board_encoding.specs.Loaded.{boardOf}
+use Rattle.board_encoding.specs.Parts.{boardIn}
+
+pub three : (bytes : List ℕ) → boardIn bytes .channels ≡ channelAt (boardIn bytes) 0 ∷ channelAt (boardIn bytes) 1 ∷ channelAt (boardIn bytes) 2 ∷ []
+unfolding boardIn boardOf
+three bytes = refl

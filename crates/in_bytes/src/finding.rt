@@ -1,0 +1,59 @@
+// An operation of a host with the part of the board found that it is about. What a trace has too is found by `turn`.
+use board::Answer;
+use board_operation::Operation;
+use refusal::Refusal;
+use time::SystemTicks;
+use turn::finding;
+use turn::finding::Turn;
+ghost use Rattle.in_bytes.specs.Part.{askPart, partOf, FindsPart};
+
+// What can be asked of a channel.
+pub enum Query {
+    OutputState,
+    ChannelCount,
+    Retriggers,
+    IsDirty,
+}
+
+pub enum Part {
+    Turned(Turn),
+    // A channel of the board, and what is asked of it.
+    Ask(u8, Query),
+    TimerAccum,
+}
+
+// Refusal 2.
+fn ask_part(channel: u16, query: Query) -> Part
+    ensures { λ r. ⌜ FindsPart (askPart channel query) r ⌝ }
+{
+    if 2 < channel {
+        return Part::Turned(Turn::Say(Answer::Refused(Refusal::ChannelAbove2)));
+    }
+    Part::Ask(channel as u8, query)
+}
+
+// For a board that owes ticks, or owes none.
+pub fn part_of(operation: Operation, owing: bool) -> Part
+    ensures { λ r. ⌜ FindsPart (partOf owing operation) r ⌝ }
+{
+    match operation {
+        Operation::WritePort(port, byte) => {
+            Part::Turned(finding::write_turn(port, byte, owing))
+        }
+        Operation::ReadPort(port) => Part::Turned(finding::read_turn(port)),
+        Operation::SetChannelGate(channel, level) => {
+            Part::Turned(finding::gate_turn(channel, level, owing))
+        }
+        Operation::Counts(channel, number) => Part::Turned(finding::counts_turn(channel, number)),
+        Operation::LoadCycle(channel) => Part::Turned(finding::load_cycle_turn(channel)),
+        Operation::CatchUp(ticks) => Part::Turned(Turn::Elapse(ticks, ticks, true)),
+        Operation::Run(ticks) => Part::Turned(Turn::Elapse(ticks, SystemTicks(0), false)),
+        Operation::Reset => Part::Turned(finding::reset_turn(owing)),
+        Operation::GetOutputState(channel) => ask_part(channel, Query::OutputState),
+        Operation::GetChannelCount(channel) => ask_part(channel, Query::ChannelCount),
+        Operation::DoesChannelRetrigger(channel) => ask_part(channel, Query::Retriggers),
+        Operation::IsDirty(channel) => ask_part(channel, Query::IsDirty),
+        Operation::GetTimerAccum => Part::TimerAccum,
+        Operation::WorkOff(stated) => Part::Turned(Turn::WorkOff(stated)),
+    }
+}

@@ -1,0 +1,127 @@
+// What an operation does to the part of the board that it is about: taken out of the bytes, done by value, put back.
+use crate::finding::Query;
+use board::Answer;
+use board_encoding::channel_in;
+use board_encoding::defer_in;
+use board_encoding::divisor_in;
+use board_encoding::model_in;
+use board_encoding::owed_in;
+use board_encoding::put_channel;
+use board_encoding::put_channels;
+use board_encoding::put_time;
+use board_encoding::remainder_in;
+use board_encoding::warp_in;
+use board_operation::making::Numbers;
+use board_operation::making::numbers_of;
+use time::SystemTicks;
+use turn::finding::Turn;
+use turn::finding::Work;
+ghost use mathlib.Core.List.{List};
+ghost use mathlib.Core.Path.{_≡_};
+ghost use Prim.Native.Nat.{ℕ, _<_};
+ghost use Rattle.board_encoding.specs.Parts.{boardIn, Holds};
+ghost use Rattle.turn.specs.Turn.{turned, OnBoard};
+ghost use Rattle.in_bytes.specs.Part.{asked};
+ghost use Rattle.in_bytes.specs.Written.{told, written};
+
+fn on_channel(bytes: &mut [u8], n: u8, work: Work, events: &mut [u8], place: usize) -> Numbers
+    requires { ⌜ n < 3 ⌝ }
+    requires { ⌜ Holds (now bytes) ⌝ }
+    ensures { λ r. ⌜ told r (now (bytes .exit)) (now (events .exit)) ≡ written (turned (boardIn (now (bytes .entry))) (Turn.OnChannel n work) (now (events .entry)) place) (now (bytes .entry)) ⌝ }
+{
+    let i = n as usize;
+    let c = channel_in(bytes, i);
+    let model = model_in(bytes);
+    let defer = defer_in(bytes);
+    let done = turn::work_on(c, n, work, model, defer, events, place);
+    let answer = done.answer;
+    let next = done.channel;
+    put_channel(bytes, i, next);
+    numbers_of(answer)
+}
+
+fn elapse(bytes: &mut [u8], given: SystemTicks, next: SystemTicks, defers: bool) -> Numbers
+    requires { ⌜ Holds (now bytes) ⌝ }
+    ensures { λ r. ⌜ ((events : List ℕ) (place : ℕ) → told r (now (bytes .exit)) events ≡ written (turned (boardIn (now (bytes .entry))) (Turn.Elapse given next defers) events place) (now (bytes .entry))) ⌝ }
+{
+    let divisor = divisor_in(bytes);
+    let remainder = remainder_in(bytes);
+    let warp = warp_in(bytes);
+    let defer = defer_in(bytes);
+    let owed = owed_in(bytes);
+    let elapsed = turn::elapse(given, next, defers, divisor, remainder, warp, defer, owed);
+    let answer = elapsed.answer;
+    let left = elapsed.remainder;
+    let since = elapsed.warp;
+    let owes = elapsed.owed;
+    put_time(bytes, left, since, elapsed.defer, owes);
+    numbers_of(answer)
+}
+
+// No tick is owed, or the reset would have been refused.
+fn reset(bytes: &mut [u8]) -> Numbers
+    requires { ⌜ Holds (now bytes) ⌝ }
+    ensures { λ r. ⌜ ((events : List ℕ) (place : ℕ) → told r (now (bytes .exit)) events ≡ written (turned (boardIn (now (bytes .entry))) Turn.Reset events place) (now (bytes .entry))) ⌝ }
+{
+    let c0 = channel_in(bytes, 0);
+    let c1 = channel_in(bytes, 1);
+    let c2 = channel_in(bytes, 2);
+    let owed = owed_in(bytes);
+    put_channels(bytes, c0.reset(), c1.reset(), c2.reset(), owed);
+    numbers_of(Answer::Done)
+}
+
+fn work_off(bytes: &mut [u8], stated: u32, events: &mut [u8], place: usize) -> Numbers
+    requires { ⌜ Holds (now bytes) ⌝ }
+    ensures { λ r. ⌜ told r (now (bytes .exit)) (now (events .exit)) ≡ written (turned (boardIn (now (bytes .entry))) (Turn.WorkOff stated) (now (events .entry)) place) (now (bytes .entry)) ⌝ }
+{
+    let c0 = channel_in(bytes, 0);
+    let c1 = channel_in(bytes, 1);
+    let c2 = channel_in(bytes, 2);
+    let model = model_in(bytes);
+    let owed = owed_in(bytes);
+    let worked = owed::work_channels(c0, c1, c2, model, owed, stated, events, place);
+    let answer = worked.answer;
+    let t0 = worked.c0;
+    let t1 = worked.c1;
+    let t2 = worked.c2;
+    let owes = worked.owed;
+    put_channels(bytes, t0, t1, t2, owes);
+    numbers_of(answer)
+}
+
+// A turn's channel is one of the board's.
+pub(crate) fn turn_in(bytes: &mut [u8], turn: Turn, events: &mut [u8], place: usize) -> Numbers
+    requires { ⌜ OnBoard turn ⌝ }
+    requires { ⌜ Holds (now bytes) ⌝ }
+    ensures { λ r. ⌜ told r (now (bytes .exit)) (now (events .exit)) ≡ written (turned (boardIn (now (bytes .entry))) turn (now (events .entry)) place) (now (bytes .entry)) ⌝ }
+{
+    match turn {
+        Turn::OnChannel(n, work) => on_channel(bytes, n, work, events, place),
+        Turn::Elapse(given, next, defers) => elapse(bytes, given, next, defers),
+        Turn::Reset => reset(bytes),
+        Turn::WorkOff(stated) => work_off(bytes, stated, events, place),
+        Turn::Untouched => numbers_of(turn::untouched(events, place)),
+        Turn::Say(answer) => numbers_of(answer),
+    }
+}
+
+pub(crate) fn ask(bytes: &mut [u8], n: u8, query: Query) -> Numbers
+    requires { ⌜ n < 3 ⌝ }
+    requires { ⌜ Holds (now bytes) ⌝ }
+    ensures { λ r. ⌜ ((events : List ℕ) → told r (now (bytes .exit)) events ≡ written (asked (boardIn (now (bytes .entry))) n query events) (now (bytes .entry))) ⌝ }
+{
+    let i = n as usize;
+    let c = channel_in(bytes, i);
+    match query {
+        Query::OutputState => numbers_of(Answer::OutputState(c.get_output_state())),
+        Query::ChannelCount => numbers_of(Answer::Count(c.get_channel_count())),
+        Query::Retriggers => numbers_of(Answer::Retriggers(c.does_channel_retrigger())),
+        Query::IsDirty => {
+            let got = c.is_dirty();
+            let next = got.channel;
+            put_channel(bytes, i, next);
+            numbers_of(Answer::Dirty(got.dirty, got.counting, got.ticked))
+        }
+    }
+}
