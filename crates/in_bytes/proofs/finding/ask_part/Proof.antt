@@ -1,0 +1,21 @@
+-- `in_bytes::finding::ask_part` meets its contract. Assumes nothing.
+use mathlib.Core.Path.{refl}
+use native.Mathlib.Omega.{arith}
+use borrow.Author.Tests.{lt-ltb, le-ltb}
+use borrow.Author.Needs.{needs}
+use Rattle.in_bytes.proofs.finding.ask_part.Statement.{statement}
+use Rattle.in_bytes.proofs.finding.ask_part.Tie as tie
+
+returns : tie.Need-returns
+returns c = rw (lt-ltb _ _ (c .if1 .taken)) (refl, tt)
+
+returns-2 : tie.Need-returns-2
+returns-2 c = rw (le-ltb _ _ (c .if1 .left)) (refl, omega arith)
+
+pub ask-part-spec : {M : Type 1} → statement M
+ask-part-spec =
+    tie.close
+    (tie.spec
+    returns
+    (λ c. search needs)
+    returns-2)
