@@ -2,7 +2,6 @@
 
 use crate::ours::{Door, Operation, LENGTH, NEW, OLD};
 use std::collections::BTreeMap;
-use std::fmt::Write;
 
 /// The limit of each byte of a record, as docs/ENCODING.md has it; a number's bytes have none.
 const RECORD: [u8; 29] = {
@@ -20,7 +19,8 @@ const CODES: [u8; 14] = [1, 2, 3, 4, 5, 6, 7, 8, 9, 17, 18, 19, 20, 21];
 /// What `pit_board_operation` can return.
 const STATUSES: [u32; 15] = [0, 1, 2, 3, 4, 5, 6, 7, 8, 15, 16, 101, 102, 103, 104];
 
-/// Where board, events and answer begin among the bytes, and how many bytes there are.
+/// Where the three buffers begin among the bytes, or up to seven later, and how many bytes there are.
+const NAMES: [&str; 3] = ["board", "events", "answer"];
 const PLACES: [usize; 3] = [16, 160, 240];
 const BYTES: usize = 300;
 
@@ -40,14 +40,13 @@ fn number_at(board: &Board, place: usize) -> u32 {
 
 #[derive(Clone, Copy, Debug)]
 enum Function {
-    New { model: u8, divisor: u32 },
-    Operation(Operation),
+    BoardNew { model: u8, divisor: u32 },
+    BoardOperation(Operation),
 }
 
 struct Call {
     function: Function,
     bytes: [u8; BYTES],
-    /// Where the three buffers begin: at any place of eight.
     places: [usize; 3],
     lengths: [usize; 3],
 }
@@ -61,8 +60,8 @@ impl Call {
         let (front, events) = front.split_at_mut(e);
         let board = &mut front[b..b + lengths[0]];
         let status = match self.function {
-            Function::New { model, divisor } => door.fresh(board, model, divisor),
-            Function::Operation(op) => door.operation(board, &mut events[..lengths[1]], &mut answer[..lengths[2]], op),
+            Function::BoardNew { model, divisor } => door.fresh(board, model, divisor),
+            Function::BoardOperation(op) => door.operation(board, &mut events[..lengths[1]], &mut answer[..lengths[2]], op),
         };
         (status, bytes)
     }
@@ -72,17 +71,20 @@ impl Call {
     }
 
     fn show(&self, old: &(u32, [u8; BYTES]), new: &(u32, [u8; BYTES])) -> String {
-        let mut text = format!("{:?}\n", self.function);
-        for (name, (place, length)) in ["board", "events", "answer"].iter().zip(self.places.iter().zip(self.lengths)) {
-            let lent = &self.bytes[*place..][..length];
-            let _ =
-                writeln!(text, "{name}, {length} bytes at {place}: {}", lent.iter().map(|byte| format!("{byte:02X}")).collect::<String>());
+        let mut lines = vec![format!("{:?}", self.function)];
+        let buffers: [_; 3] = std::array::from_fn(|n| (NAMES[n], self.places[n], self.lengths[n]));
+        for (name, place, length) in buffers {
+            let lent: String = self.bytes[place..][..length].iter().map(|byte| format!("{byte:02X}")).collect();
+            lines.push(format!("{name}, {length} bytes: {lent}"));
         }
-        let _ = writeln!(text, "status: old {}, new {}", old.0, new.0);
-        for place in (0..BYTES).filter(|place| old.1[*place] != new.1[*place]) {
-            let _ = writeln!(text, "byte {place}: before {:02X}, old {:02X}, new {:02X}", self.bytes[place], old.1[place], new.1[place]);
+        lines.push(format!("status: old {}, new {}", old.0, new.0));
+        for at in (0..BYTES).filter(|at| old.1[*at] != new.1[*at]) {
+            // Bytes between two buffers are told by their distance from the first of them.
+            let (name, place, _) = buffers.iter().rev().find(|(_, place, _)| *place <= at).unwrap_or(&buffers[0]);
+            let number = at as isize - *place as isize;
+            lines.push(format!("{name} byte {number}: before {:02X}, old {:02X}, new {:02X}", self.bytes[at], old.1[at], new.1[at]));
         }
-        text
+        lines.join("\n")
     }
 }
 
@@ -192,9 +194,9 @@ impl Random {
             if self.one_in(16) { self.below(16) } else { 16 + self.below(17) },
         ];
         let function = if self.one_in(32) {
-            Function::New { model: self.one_of(&[0, 0, 1, 1, 2, 255]), divisor: self.divisor() }
+            Function::BoardNew { model: self.one_of(&[0, 0, 1, 1, 2, 255]), divisor: self.divisor() }
         } else {
-            Function::Operation(self.operation(&board, lengths[1]))
+            Function::BoardOperation(self.operation(&board, lengths[1]))
         };
         let mut bytes = [0; BYTES];
         bytes.chunks_mut(8).for_each(|part| part.copy_from_slice(&self.next().to_le_bytes()[..part.len()]));
@@ -227,7 +229,7 @@ pub fn run(calls: u64, seed: u64) {
         if old != new {
             differ += 1;
             if differ == 1 {
-                print!("the first that differs:\n{}", call.show(&old, &new));
+                println!("the first that differs:\n{}", call.show(&old, &new));
             }
         }
         if old.0 == 0 {

@@ -92,9 +92,9 @@ fn times(number: usize, ticks: u32) -> Vec<Six> {
     each(number, |i| if i % 2 == 0 { six(6, 0, ticks / 2) } else { six(7, 0, ticks) })
 }
 
-/// The same, and behind each the ticks that it yields, worked off on channels that wait for a count.
-fn worked_times(number: usize, ticks: u32) -> Vec<Six> {
-    times(number / 2, ticks).into_iter().flat_map(|time| [time, WORK_OFF]).collect()
+/// Runs of some timer ticks, each worked off on channels that wait for a count.
+fn worked_runs(number: usize, ticks: u32) -> Vec<Six> {
+    each(number, |i| if i % 2 == 0 { six(7, 0, 12 * ticks) } else { WORK_OFF })
 }
 
 /// What a robot's program does with the chip, in random order: all codes, most of them on good ports and channels. Behind each time call its ticks are worked off.
@@ -137,9 +137,9 @@ pub fn all() -> Vec<Workload> {
         workload("65,536 counts a call, binary", counts(128, 65_536, 0x30)),
         workload("65,536 counts a call, BCD", counts(36, 65_536, 0x31)),
         divided("catch-ups and runs that yield no tick", u32::MAX, times(4096, 24)),
-        workload("the same of 24 ticks, each worked off", worked_times(4096, 24)),
-        workload("the same of 60 ticks, each worked off", worked_times(4096, 60)),
-        workload("the same of 12,000 ticks, each worked off", worked_times(4096, 12_000)),
+        workload("runs of two ticks and their working off", worked_runs(4096, 2)),
+        workload("runs of five ticks and their working off", worked_runs(4096, 5)),
+        workload("runs of 1,000 ticks and their working off", worked_runs(4096, 1000)),
     ]
 }
 
@@ -188,7 +188,6 @@ fn in_turn(code: u8) -> Vec<Six> {
 
 pub fn singles() -> Vec<Single> {
     let no_tick = divided("run without a tick", u32::MAX, each(252, |_| six(7, 0, 1)));
-    let two_ticks = workload("run of two ticks and their working off", each(252, |i| if i % 2 == 0 { six(7, 0, 24) } else { WORK_OFF }));
     vec![
         single("data write", &[], data_writes(252)),
         single("mode set", &[], mode_sets(252)),
@@ -202,6 +201,6 @@ pub fn singles() -> Vec<Single> {
         single("query: dirty", &COUNTS, in_turn(20)),
         single("query: remainder", &COUNTS, each(252, |_| six(21, 0, 0))),
         single("reset", &COUNTS, each(252, |_| six(8, 0, 0))),
-        Single { all: two_ticks, begun: 0, calls: 2 },
+        Single { all: workload("run of two ticks and their working off", worked_runs(252, 2)), begun: 0, calls: 2 },
     ]
 }
