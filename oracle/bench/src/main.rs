@@ -2,7 +2,7 @@
 //!
 //!     bench [REPETITIONS]           every measurement; 61 repetitions where none are asked for
 //!     bench calls [REPETITIONS]     one call at a time, through the old archive, today's and the original
-//!     bench doors [N] [SEED]        N random calls through the old archive and today's; 1,000,000 where none are asked for
+//!     bench doors [N] [SEED]        N random calls through the old archive and today's; 10,000,000 where none are asked for
 //!     bench only NAME TURNS SIDE    one workload on one side (`ours` or `original`) some times over, for callgrind
 
 mod calls;
@@ -21,7 +21,7 @@ use workloads::Workload;
 const ROOM: usize = 262_272;
 const REPETITIONS: usize = 61;
 /// Random calls, and the seed, where none are asked for.
-const CALLS: u64 = 1_000_000;
+const CALLS: u64 = 10_000_000;
 const SEED: u64 = 1;
 
 type Whole = fn(&[u8], &mut [u8]) -> Option<usize>;
