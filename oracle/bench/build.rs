@@ -1,4 +1,5 @@
-//! Links two of our static libraries: today's, and an old one whose functions have other names. There is no other way to run them here: a time under an emulator says nothing.
+//! Links two of our static libraries: today's, and an old one whose functions have other names. There is no other way to run them here:
+//! a time under an emulator says nothing.
 
 use std::env;
 use std::path::PathBuf;

@@ -1,4 +1,5 @@
-//! Random calls of `pit_board_new` and `pit_board_operation` through two archives. After each call the status and all lent bytes must be the same, with those before and past them.
+//! Random calls of `pit_board_new` and `pit_board_operation` through two archives. After each call the status and all lent bytes must be
+//! the same, with those before and past them.
 
 use crate::ours::{Door, Operation, LENGTH, NEW, OLD};
 use std::collections::BTreeMap;
@@ -213,7 +214,7 @@ fn fresh(random: &mut Random) -> Board {
     board
 }
 
-/// Chains of calls, each on what the last left, from boards of any content and fresh ones in turn. The exit status is 1 where any call differs.
+/// Chains of calls, each on what the last left, from boards of any content and fresh ones. The exit status is 1 where any call differs.
 pub fn run(calls: u64, seed: u64) {
     let mut random = Random(seed);
     let mut board = random.board();

@@ -45,7 +45,8 @@ fn turns(run: &mut dyn FnMut()) -> usize {
     ((LEAST / enough) as usize).clamp(1, 10_000_000)
 }
 
-/// Nanoseconds an operation of each side, medians. The sides run in turn, so that what the processor does at a time, its clock say, falls on all.
+/// Nanoseconds an operation of each side, medians. The sides run in turn, so that what the processor does at a time, its clock say, falls
+/// on all.
 pub fn medians<const N: usize>(operations: usize, repetitions: usize, mut sides: [&mut dyn FnMut(); N]) -> [f64; N] {
     let many = sides.each_mut().map(|side| turns(side));
     let mut times = [(); N].map(|()| Vec::new());

@@ -256,7 +256,8 @@ pub fn replay(trace: &[u8], out: &mut [u8]) -> Option<usize> {
     Some(lines.len())
 }
 
-/// One operation of a trace, or a query, on a board that the caller keeps: what the bench measures one at a time. Answers its refusal or the first number that docs/ENCODING.md has for it.
+/// One operation of a trace, or a query, on a board that the caller keeps: what the bench measures one at a time. Answers its refusal or
+/// the first number that docs/ENCODING.md has for it.
 pub fn one(board: &mut Baseline, trace: &[u8], index: usize) -> u32 {
     let op = op_at(trace, index);
     if op.code >= 17 {
