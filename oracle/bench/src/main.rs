@@ -105,7 +105,7 @@ fn main() {
         _ => None,
     };
     if known.is_none() {
-        eprintln!("bench [REPETITIONS], bench calls [REPETITIONS], bench doors [N] [SEED], or bench only NAME TURNS ours|original");
+        eprintln!("./bench [REPETITIONS], calls OLD_DIR [REPETITIONS], doors OLD_DIR [N] [SEED], or only NAME TURNS ours|original");
         std::process::exit(2);
     }
 }
