@@ -1,14 +1,18 @@
 //! Our timer and the original, the same operations through both in one process. docs/PERFORMANCE.md has the figures and what they mean.
 //!
 //!     bench [REPETITIONS]           every measurement; 61 repetitions where none are asked for
+//!     bench calls [REPETITIONS]     one call at a time, through the old archive, today's and the original
+//!     bench doors [N] [SEED]        N random calls through the old archive and today's; 10,000,000 where none are asked for
 //!     bench only NAME TURNS SIDE    one workload on one side (`ours` or `original`) some times over, for callgrind
 
+mod calls;
+mod doors;
 mod measure;
 mod ours;
 mod ticks;
 mod workloads;
 
-use measure::{apart, apart_head, head, print_apart, print_row, sides, Apart, Row};
+use measure::{head, medians, print_row, print_two, two_head};
 use original::pit::baseline;
 use std::hint::black_box;
 use workloads::Workload;
@@ -16,11 +20,14 @@ use workloads::Workload;
 /// Room for every replay.
 const ROOM: usize = 262_272;
 const REPETITIONS: usize = 61;
+/// Random calls, and the seed, where none are asked for.
+const CALLS: u64 = 10_000_000;
+const SEED: u64 = 1;
 
 type Whole = fn(&[u8], &mut [u8]) -> Option<usize>;
 
 /// A whole trace through both sides, whose bytes must be the same.
-fn whole(workload: &Workload, repetitions: usize, mine: Whole, theirs: Whole) -> Row {
+fn whole(workload: &Workload, repetitions: usize, mine: Whole, theirs: Whole) -> [f64; 2] {
     let trace = &workload.trace[..];
     let (mut a, mut b) = (vec![0xA5; ROOM], vec![0xA5; ROOM]);
     let lengths = (mine(trace, &mut a), theirs(trace, &mut b));
@@ -31,58 +38,37 @@ fn whole(workload: &Workload, repetitions: usize, mine: Whole, theirs: Whole) ->
     let mut other = || {
         black_box(theirs(black_box(trace), &mut b));
     };
-    sides(workload.name, workload.operations, repetitions, &mut one, &mut other)
-}
-
-/// The same operations one call at a time, our board in bytes between the calls; and a call that only loads the board, answers a number and stores it again.
-fn one_at_a_time(workload: &Workload, repetitions: usize) -> Apart {
-    let trace = &workload.trace[..];
-    let operations: Vec<(u8, u16, u32)> = workload.each().collect();
-    let mut board = ours::Board::fresh(1, 12);
-    for (code, target, number) in &operations {
-        board.operation(*code, *target, *number);
-    }
-    let mut other_board = board.clone();
-    let mut timer = baseline::Baseline::fresh(trace);
-    let mut call = || {
-        for (code, target, number) in &operations {
-            black_box(board.operation(*code, *target, *number));
-        }
-    };
-    let mut boundary = || {
-        for _ in 0..workload.operations {
-            black_box(other_board.operation(black_box(ours::GET_TIMER_ACCUM), 0, 0));
-        }
-    };
-    let mut original = || {
-        for index in 0..workload.operations {
-            black_box(baseline::one(&mut timer, black_box(trace), index));
-        }
-    };
-    apart(workload.name, workload.operations, repetitions, [&mut call, &mut boundary, &mut original])
+    medians(workload.operations, repetitions, [&mut one, &mut other])
 }
 
 fn everything(repetitions: usize) {
     head("our runner owns the board: answers of a whole trace");
     for workload in workloads::all() {
-        print_row(&whole(&workload, repetitions, ours::answers, baseline::answers));
+        print_row(workload.name, whole(&workload, repetitions, ours::answers, baseline::answers));
     }
     head("the same with lines printed");
     for workload in workloads::growing() {
-        print_row(&whole(&workload, repetitions, ours::replay, baseline::replay));
+        print_row(workload.name, whole(&workload, repetitions, ours::replay, baseline::replay));
     }
     head("growth: answers of a mixed trace");
     for workload in workloads::growing() {
-        print_row(&whole(&workload, repetitions, ours::answers, baseline::answers));
+        print_row(workload.name, whole(&workload, repetitions, ours::answers, baseline::answers));
     }
     head("a run of 65,536 ticks, worked off in one call, beside the original's run; channel 0 counts");
-    for row in ticks::rows(repetitions) {
-        print_row(&row);
+    for (name, row) in ticks::rows(repetitions) {
+        print_row(name, row);
     }
     println!("operations refused while ticks are owed: {}", refused_while_owed());
-    apart_head("one call at a time, our board in bytes");
-    for workload in workloads::single() {
-        print_apart(&one_at_a_time(&workload, repetitions));
+    head("one call at a time, our board in bytes");
+    for single in workloads::singles() {
+        print_row(single.all.name, calls::beside_original(&single, repetitions));
+    }
+}
+
+fn two_archives(repetitions: usize) {
+    two_head("one call at a time, our board in bytes, through two archives");
+    for single in workloads::singles() {
+        print_two(single.all.name, calls::of_two(&single, repetitions));
     }
 }
 
@@ -109,12 +95,17 @@ fn main() {
     let words: Vec<&str> = words.iter().map(String::as_str).collect();
     let known = match words[..] {
         [] => Some(everything(REPETITIONS)),
-        [n] => n.parse().ok().map(everything),
+        ["calls"] => Some(two_archives(REPETITIONS)),
+        ["calls", n] => n.parse().ok().map(two_archives),
+        ["doors"] => Some(doors::run(CALLS, SEED)),
+        ["doors", n] => n.parse().ok().map(|calls| doors::run(calls, SEED)),
+        ["doors", n, seed] => n.parse().ok().zip(seed.parse().ok()).map(|(calls, seed)| doors::run(calls, seed)),
         ["only", name, turns, side] => turns.parse().ok().and_then(|turns| only(name, turns, side)),
+        [n] => n.parse().ok().map(everything),
         _ => None,
     };
     if known.is_none() {
-        eprintln!("bench [REPETITIONS], or bench only NAME TURNS ours|original");
+        eprintln!("./bench [REPETITIONS], calls OLD_DIR [REPETITIONS], doors OLD_DIR [N] [SEED], or only NAME TURNS ours|original");
         std::process::exit(2);
     }
 }

@@ -26,13 +26,6 @@ const LEAST: f64 = 0.003;
 /// Repetitions that come first and are not counted.
 const WARM_UP: usize = 3;
 
-/// Nanoseconds an operation on both sides.
-pub struct Row {
-    pub name: &'static str,
-    pub ours: f64,
-    pub original: f64,
-}
-
 fn median(mut times: Vec<f64>) -> f64 {
     times.sort_by(f64::total_cmp);
     times[times.len() / 2]
@@ -52,62 +45,38 @@ fn turns(run: &mut dyn FnMut()) -> usize {
     ((LEAST / enough) as usize).clamp(1, 10_000_000)
 }
 
-/// Both sides in turn, so that what the processor does at a time, its clock say, falls on both.
-pub fn sides(name: &'static str, operations: usize, repetitions: usize, one: &mut dyn FnMut(), other: &mut dyn FnMut()) -> Row {
-    let (ones, others) = (turns(one), turns(other));
-    let (mut ours, mut original) = (Vec::new(), Vec::new());
+/// Nanoseconds an operation of each side, medians. The sides run in turn, so that what the processor does at a time, its clock say, falls
+/// on all.
+pub fn medians<const N: usize>(operations: usize, repetitions: usize, mut sides: [&mut dyn FnMut(); N]) -> [f64; N] {
+    let many = sides.each_mut().map(|side| turns(side));
+    let mut times = [(); N].map(|()| Vec::new());
     for repetition in 0..WARM_UP + repetitions.max(1) {
-        let (a, b) = (time(ones, one), time(others, other));
-        if repetition >= WARM_UP {
-            ours.push(a);
-            original.push(b);
-        }
-    }
-    let each = 1e9 / operations as f64;
-    Row { name, ours: median(ours) * each, original: median(original) * each }
-}
-
-/// Nanoseconds a call: ours, what of it is the boundary, what is left for the call by value, and the original's.
-pub struct Apart {
-    name: &'static str,
-    call: f64,
-    boundary: f64,
-    by_value: f64,
-    original: f64,
-}
-
-/// Three runs in turn: calls of ours, calls of ours that only cross the boundary, and the original's. What is left is taken repetition by repetition.
-pub fn apart(name: &'static str, operations: usize, repetitions: usize, runs: [&mut dyn FnMut(); 3]) -> Apart {
-    let [call, boundary, original] = runs;
-    let many = [turns(call), turns(boundary), turns(original)];
-    let mut times: [Vec<f64>; 4] = Default::default();
-    for repetition in 0..WARM_UP + repetitions.max(1) {
-        let (a, b, c) = (time(many[0], call), time(many[1], boundary), time(many[2], original));
-        if repetition >= WARM_UP {
-            for (all, one) in times.iter_mut().zip([a, b, a - b, c]) {
-                all.push(one);
+        for n in 0..N {
+            let took = time(many[n], sides[n]);
+            if repetition >= WARM_UP {
+                times[n].push(took);
             }
         }
     }
-    let each = 1e9 / operations as f64;
-    let [call, boundary, by_value, original] = times.map(|all| median(all) * each);
-    Apart { name, call, boundary, by_value, original }
+    times.map(|all| median(all) * 1e9 / operations as f64)
 }
 
-pub fn apart_head(what: &str) {
-    println!("\n{what}\n{:<40} {:>10} {:>10} {:>10} {:>10}", "nanoseconds a call, medians", "ours", "boundary", "by value", "original");
-}
-
-pub fn print_apart(row: &Apart) {
-    println!("{:<40} {:>10.2} {:>10.2} {:>10.2} {:>10.2}", row.name, row.call, row.boundary, row.by_value, row.original);
-}
-
+/// Ours and the original's.
 pub fn head(what: &str) {
-    println!("\n{what}\n{:<40} {:>10} {:>10} {:>7}", "nanoseconds an operation, medians", "ours", "original", "ratio");
+    println!("\n{what}\n{:<42} {:>10} {:>10} {:>7}", "nanoseconds an operation, medians", "ours", "original", "ratio");
 }
 
-pub fn print_row(row: &Row) {
-    let ratio = row.ours / row.original;
+pub fn print_row(name: &str, [ours, original]: [f64; 2]) {
+    let ratio = ours / original;
     let places = if ratio < 0.1 { 4 } else { 2 };
-    println!("{:<40} {:>10.2} {:>10.2} {ratio:>7.places$}", row.name, row.ours, row.original);
+    println!("{name:<42} {ours:>10.2} {original:>10.2} {ratio:>7.places$}");
+}
+
+/// Two archives of ours and the original's.
+pub fn two_head(what: &str) {
+    println!("\n{what}\n{:<42} {:>10} {:>10} {:>7} {:>10}", "nanoseconds a call, medians", "old", "new", "old/new", "original");
+}
+
+pub fn print_two(name: &str, [old, new, original]: [f64; 3]) {
+    println!("{name:<42} {old:>10.2} {new:>10.2} {:>7.2} {original:>10.2}", old / new);
 }

@@ -1,31 +1,93 @@
-//! Our timer behind the functions that it exports.
+//! Our timer behind the functions that it exports, of today's archive and of an old one.
 
-/// The code of a query that leaves the board as it is, and of working ticks off.
-pub const GET_TIMER_ACCUM: u8 = 21;
+/// The code of working ticks off.
 const WORK_OFF: u8 = 9;
 
 /// Bytes of a board.
-const LENGTH: usize = 105;
+pub const LENGTH: usize = 105;
 
-extern "C" {
-    fn pit_board_new(board: *mut u8, board_len: usize, model: u8, divisor: u32) -> u32;
-    fn pit_board_operation(
-        board: *mut u8,
-        board_len: usize,
-        events: *mut u8,
-        events_len: usize,
-        answer: *mut u8,
-        answer_len: usize,
-        place: usize,
-        code: u8,
-        target: u16,
-        number: u32,
-    ) -> u32;
-    fn pit_replay(trace: *const u8, trace_len: usize, out: *mut u8, out_len: usize, answer: *mut u8, answer_len: usize) -> u32;
-    fn pit_answers(trace: *const u8, trace_len: usize, out: *mut u8, out_len: usize, answer: *mut u8, answer_len: usize) -> u32;
+type BoardNew = unsafe extern "C" fn(board: *mut u8, board_len: usize, model: u8, divisor: u32) -> u32;
+type BoardOperation = unsafe extern "C" fn(
+    board: *mut u8,
+    board_len: usize,
+    events: *mut u8,
+    events_len: usize,
+    answer: *mut u8,
+    answer_len: usize,
+    place: usize,
+    code: u8,
+    target: u16,
+    number: u32,
+) -> u32;
+type Whole =
+    unsafe extern "C" fn(trace: *const u8, trace_len: usize, out: *mut u8, out_len: usize, answer: *mut u8, answer_len: usize) -> u32;
+
+/// The functions as docs/ENCODING.md writes them, and two of the old archive's as ./bench names them.
+mod c {
+    extern "C" {
+        pub fn pit_board_new(board: *mut u8, board_len: usize, model: u8, divisor: u32) -> u32;
+        pub fn pit_board_operation(
+            board: *mut u8,
+            board_len: usize,
+            events: *mut u8,
+            events_len: usize,
+            answer: *mut u8,
+            answer_len: usize,
+            place: usize,
+            code: u8,
+            target: u16,
+            number: u32,
+        ) -> u32;
+        pub fn pit_replay(trace: *const u8, trace_len: usize, out: *mut u8, out_len: usize, answer: *mut u8, answer_len: usize) -> u32;
+        pub fn pit_answers(trace: *const u8, trace_len: usize, out: *mut u8, out_len: usize, answer: *mut u8, answer_len: usize) -> u32;
+        pub fn old_pit_board_new(board: *mut u8, board_len: usize, model: u8, divisor: u32) -> u32;
+        pub fn old_pit_board_operation(
+            board: *mut u8,
+            board_len: usize,
+            events: *mut u8,
+            events_len: usize,
+            answer: *mut u8,
+            answer_len: usize,
+            place: usize,
+            code: u8,
+            target: u16,
+            number: u32,
+        ) -> u32;
+    }
 }
 
-type Whole = unsafe extern "C" fn(*const u8, usize, *mut u8, usize, *mut u8, usize) -> u32;
+/// An operation on a board of docs/ENCODING.md, with its place in the event bytes.
+#[derive(Clone, Copy, Debug)]
+pub struct Operation {
+    pub place: usize,
+    pub code: u8,
+    pub target: u16,
+    pub number: u32,
+}
+
+/// The two functions of a board in one archive.
+#[derive(Clone, Copy)]
+pub struct Door {
+    board_new: BoardNew,
+    board_operation: BoardOperation,
+}
+
+pub const NEW: Door = Door { board_new: c::pit_board_new, board_operation: c::pit_board_operation };
+pub const OLD: Door = Door { board_new: c::old_pit_board_new, board_operation: c::old_pit_board_operation };
+
+impl Door {
+    pub fn fresh(&self, board: &mut [u8], model: u8, divisor: u32) -> u32 {
+        // SAFETY: the pointer goes with the slice's length.
+        unsafe { (self.board_new)(board.as_mut_ptr(), board.len(), model, divisor) }
+    }
+
+    pub fn operation(&self, board: &mut [u8], events: &mut [u8], answer: &mut [u8], op: Operation) -> u32 {
+        let (b, e, a) = (board.as_mut_ptr(), events.as_mut_ptr(), answer.as_mut_ptr());
+        let Operation { place, code, target, number } = op;
+        // SAFETY: each pointer goes with the length of the slice that it comes from, and the three are apart.
+        unsafe { (self.board_operation)(b, board.len(), e, events.len(), a, answer.len(), place, code, target, number) }
+    }
+}
 
 fn whole(call: Whole, trace: &[u8], out: &mut [u8]) -> Option<usize> {
     let mut answer = [0; 16];
@@ -36,32 +98,30 @@ fn whole(call: Whole, trace: &[u8], out: &mut [u8]) -> Option<usize> {
 
 /// The answers of a trace at the front of `out`, and how many bytes they are.
 pub fn answers(trace: &[u8], out: &mut [u8]) -> Option<usize> {
-    whole(pit_answers, trace, out)
+    whole(c::pit_answers, trace, out)
 }
 
 /// What a replay of a trace prints at the front of `out`, and how many bytes that is.
 pub fn replay(trace: &[u8], out: &mut [u8]) -> Option<usize> {
-    whole(pit_replay, trace, out)
+    whole(c::pit_replay, trace, out)
 }
 
-/// A board in bytes.
-#[derive(Clone)]
-pub struct Board([u8; LENGTH]);
+/// A board in bytes, behind one of the doors.
+pub struct Board {
+    bytes: [u8; LENGTH],
+    door: Door,
+}
 
 impl Board {
-    pub fn fresh(model: u8, divisor: u32) -> Self {
+    pub fn fresh(door: Door, model: u8, divisor: u32) -> Self {
         let mut bytes = [0; LENGTH];
-        // SAFETY: the pointer goes with the array's length.
-        let status = unsafe { pit_board_new(bytes.as_mut_ptr(), bytes.len(), model, divisor) };
-        assert_eq!(status, 0, "a fresh board");
-        Board(bytes)
+        assert_eq!(door.fresh(&mut bytes, model, divisor), 0, "a fresh board");
+        Board { bytes, door }
     }
 
     fn call(&mut self, events: &mut [u8], code: u8, target: u16, number: u32) -> Result<[u8; 16], u32> {
-        let (mut answer, board, b) = ([0; 16], self.0.as_mut_ptr(), self.0.len());
-        let (e, a) = (events.as_mut_ptr(), answer.as_mut_ptr());
-        // SAFETY: each pointer goes with the length of what it comes from, and the three are apart.
-        let status = unsafe { pit_board_operation(board, b, e, events.len(), a, answer.len(), 0, code, target, number) };
+        let mut answer = [0; 16];
+        let status = self.door.operation(&mut self.bytes, events, &mut answer, Operation { place: 0, code, target, number });
         (status == 0).then_some(answer).ok_or(status)
     }
 
@@ -83,6 +143,6 @@ impl Board {
 
     /// Channel 0's counting element and output.
     pub fn shown(&self) -> (u16, bool) {
-        (u16::from_le_bytes([self.0[19], self.0[20]]), self.0[27] == 1)
+        (u16::from_le_bytes([self.bytes[19], self.bytes[20]]), self.bytes[27] == 1)
     }
 }

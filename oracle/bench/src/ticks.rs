@@ -2,8 +2,8 @@
 //! original takes the divisor away again and again and ticks as it goes. Channel 0 counts in mode 2 or 3 on the 8253, the others wait for a count. The two ticks are not the same (docs/TICK.md,
 //! rows R1 to R13), but on these boards element, output and the number of output changes are, which is looked at first.
 
-use crate::measure::{sides, Row};
-use crate::ours::Board;
+use crate::measure::medians;
+use crate::ours::{Board, NEW};
 use original::pit::baseline::{self, Baseline};
 use std::hint::black_box;
 
@@ -20,11 +20,12 @@ const ROWS: [(&str, u32, u32); 4] = [
     ("65,536 ticks, mode 3, count 18", 0x36, 18),
 ];
 
-pub fn rows(repetitions: usize) -> Vec<Row> {
-    ROWS.iter().map(|(name, control, count)| row(name, *control, *count, repetitions)).collect()
+/// Each row's name, and the nanoseconds of both sides.
+pub fn rows(repetitions: usize) -> Vec<(&'static str, [f64; 2])> {
+    ROWS.iter().map(|(name, control, count)| (*name, row(name, *control, *count, repetitions))).collect()
 }
 
-fn row(name: &'static str, control: u32, count: u32, repetitions: usize) -> Row {
+fn row(name: &str, control: u32, count: u32, repetitions: usize) -> [f64; 2] {
     let (mut board, mut timer) = begun(control, count);
     let mut events = vec![0; EVENT_ROOM];
     let mut told = 0;
@@ -40,13 +41,13 @@ fn row(name: &'static str, control: u32, count: u32, repetitions: usize) -> Row 
     let mut other = || {
         black_box(timer.run_with_ticks(black_box(TICKS * DIVISOR)));
     };
-    sides(name, 1, repetitions, &mut one, &mut other)
+    medians(1, repetitions, [&mut one, &mut other])
 }
 
 /// A mode set and a count of two bytes on both sides, on the 8253. The bus calls of the mode set are taken back: only those of the ticks are counted.
 fn begun(control: u32, count: u32) -> (Board, Baseline) {
     let operations = [(0x43, control), (0x40, count & 0xFF), (0x40, count >> 8)];
-    let mut board = Board::fresh(0, DIVISOR);
+    let mut board = Board::fresh(NEW, 0, DIVISOR);
     let mut trace: Vec<u8> = [2, DIVISOR, 0, operations.len() as u32].iter().flat_map(|number: &u32| number.to_le_bytes()).collect();
     for (port, byte) in operations {
         board.operation(1, port, byte);

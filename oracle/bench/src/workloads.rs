@@ -1,5 +1,7 @@
 //! The traces that are measured. All begin with settings and end in the operations; the seed is fixed.
 
+use crate::ours::{Board, Door};
+
 /// A trace of some operations on the 8254.
 pub struct Workload {
     pub name: &'static str,
@@ -90,9 +92,9 @@ fn times(number: usize, ticks: u32) -> Vec<Six> {
     each(number, |i| if i % 2 == 0 { six(6, 0, ticks / 2) } else { six(7, 0, ticks) })
 }
 
-/// The same, and behind each the ticks that it yields, worked off on channels that wait for a count.
-fn worked_times(number: usize, ticks: u32) -> Vec<Six> {
-    times(number / 2, ticks).into_iter().flat_map(|time| [time, WORK_OFF]).collect()
+/// Runs of some timer ticks, each worked off on channels that wait for a count.
+fn worked_runs(number: usize, ticks: u32) -> Vec<Six> {
+    each(number, |i| if i % 2 == 0 { six(7, 0, 12 * ticks) } else { WORK_OFF })
 }
 
 /// What a robot's program does with the chip, in random order: all codes, most of them on good ports and channels. Behind each time call its ticks are worked off.
@@ -135,9 +137,9 @@ pub fn all() -> Vec<Workload> {
         workload("65,536 counts a call, binary", counts(128, 65_536, 0x30)),
         workload("65,536 counts a call, BCD", counts(36, 65_536, 0x31)),
         divided("catch-ups and runs that yield no tick", u32::MAX, times(4096, 24)),
-        workload("the same of 24 ticks, each worked off", worked_times(4096, 24)),
-        workload("the same of 60 ticks, each worked off", worked_times(4096, 60)),
-        workload("the same of 12,000 ticks, each worked off", worked_times(4096, 12_000)),
+        workload("runs of two ticks and their working off", worked_runs(4096, 2)),
+        workload("runs of five ticks and their working off", worked_runs(4096, 5)),
+        workload("runs of 1,000 ticks and their working off", worked_runs(4096, 1000)),
     ]
 }
 
@@ -151,13 +153,54 @@ pub fn growing() -> Vec<Workload> {
     ]
 }
 
-/// What is measured one call at a time.
-pub fn single() -> Vec<Workload> {
+/// What is measured one call at a time: some operations that come once and are not timed, then those that are made again and again.
+pub struct Single {
+    pub all: Workload,
+    pub begun: usize,
+    /// How many calls a figure is for.
+    calls: usize,
+}
+
+impl Single {
+    /// How many figures' worth of calls are timed.
+    pub fn number(&self) -> usize {
+        (self.all.operations - self.begun) / self.calls
+    }
+
+    /// Our fresh board with the trace's model and divisor.
+    pub fn fresh(&self, door: Door) -> Board {
+        let divisor = u32::from_le_bytes(self.all.trace[4..8].try_into().expect("four bytes"));
+        Board::fresh(door, self.all.trace[8], divisor)
+    }
+}
+
+fn single(name: &'static str, begun: &[Six], operations: Vec<Six>) -> Single {
+    Single { all: workload(name, [begun, &operations].concat()), begun: begun.len(), calls: 1 }
+}
+
+/// A channel in mode 2 that has a count and counts.
+const COUNTS: [Six; 4] = [[1, 0x43, 0x34, 0, 0, 0], [1, 0x40, 5, 0, 0, 0], [1, 0x40, 1, 0, 0, 0], [5, 0, 0, 0, 0, 0]];
+
+/// The same operation on each channel in turn.
+fn in_turn(code: u8) -> Vec<Six> {
+    each(252, |i| six(code, (i % 3) as u8, 0))
+}
+
+pub fn singles() -> Vec<Single> {
+    let no_tick = divided("run without a tick", u32::MAX, each(252, |_| six(7, 0, 1)));
     vec![
-        workload("data writes", data_writes(256)),
-        workload("latched reads", latched_reads(256)),
-        workload("gates", gates(256)),
-        workload("single counts, binary", counts(256, 1, 0x30)),
-        workload("catch-ups and runs, each worked off", worked_times(256, 24)),
+        single("data write", &[], data_writes(252)),
+        single("mode set", &[], mode_sets(252)),
+        single("latched read: latch or one byte", &[], latched_reads(252)),
+        single("gate", &COUNTS, each(252, |i| six(3, 0, (i % 2) as u32))),
+        single("one count", &COUNTS, each(252, |_| six(4, 0, 1))),
+        single("load cycle", &COUNTS, each(252, |_| six(5, 0, 0))),
+        Single { all: no_tick, begun: 0, calls: 1 },
+        single("query: output", &COUNTS, in_turn(17)),
+        single("query: count register and element", &COUNTS, in_turn(18)),
+        single("query: dirty", &COUNTS, in_turn(20)),
+        single("query: remainder", &COUNTS, each(252, |_| six(21, 0, 0))),
+        single("reset", &COUNTS, each(252, |_| six(8, 0, 0))),
+        Single { all: workload("run of two ticks and their working off", worked_runs(252, 2)), begun: 0, calls: 2 },
     ]
 }
