@@ -15,7 +15,9 @@ use Rattle.event.specs.declared.Placed.{Placed}
 use Rattle.event.specs.declared.Placed.the-variants.{At, Refused}
 use Rattle.event.specs.Event.{Placing, placeEvent, placing}
 use Rattle.event.proofs.Written.{event-written}
-use Rattle.owed.specs.Worked.{Room, put, size}
+use Rattle.board.specs.declared.Board.{Board}
+use Rattle.owed.specs.BoardTick.{tickEvent}
+use Rattle.owed.specs.Worked.{Room, put, size, needed, putAll}
 
 pub size-small : (e : Event) → size e ≤ 2
 size-small Unchanged = omega arith
@@ -72,7 +74,6 @@ still-fits e room after is more h =
     let kept : length (after .bytes) ≡ length (room .bytes) = ap (λ (r : Room). length (r .bytes)) is ∙ put-length e room (omega arith) in
     omega (arith, moved, kept, h)
 
--- the events of a tick, where they all have room
 pub puts-fit : (e f g : Event) (room : Room) → room .place + (size e + size f + size g) ≤ length (room .bytes)
     → (length (put g (put f (put e room)) .bytes) ≡ length (room .bytes)) × (put g (put f (put e room)) .place ≡ room .place + (size e + size f + size g))
 puts-fit e f g room h =
@@ -86,3 +87,8 @@ puts-fit e f g room h =
       put-length g second h₂ ∙ put-length f first (omega (arith, h₁)) ∙ put-length e room (omega (arith, h)),
       omega (arith, p₁, p₂, p₃),
     )
+
+-- the events of a tick, where they all have room
+pub putAll-fits : (b : Board) (room : Room) → room .place + needed b ≤ length (room .bytes)
+    → (length (putAll b room .bytes) ≡ length (room .bytes)) × (putAll b room .place ≡ room .place + needed b)
+putAll-fits b room h = puts-fit (tickEvent b 0) (tickEvent b 1) (tickEvent b 2) room h

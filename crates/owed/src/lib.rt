@@ -214,20 +214,6 @@ pub fn work_channels(
     work_on(c0, c1, c2, model, owed, stated, events, place)
 }
 
-// How many ticks the call makes where they are all quiet, else 0.
-pub fn quiet_run(c0: Channel, c1: Channel, c2: Channel, owed: TimerTicks, stated: u32) -> u32
-    ensures { λ r. ⌜ QuietRun c0 c1 c2 (owed .0) stated r ⌝ }
-{
-    if 65536 < stated {
-        return 0;
-    }
-    let run = alike(stated, owed.0, c0, c1, c2);
-    if run < least(stated, owed.0) {
-        return 0;
-    }
-    run
-}
-
 // The same of a board by value.
 pub fn work_off(b: Board, stated: u32, events: &mut [u8], place: usize) -> Answered
     ensures { λ r. ⌜ outcome r (now (events .exit)) ≡ workOff b stated (now (events .entry)) place ⌝ }
@@ -248,4 +234,18 @@ pub fn work_off(b: Board, stated: u32, events: &mut [u8], place: usize) -> Answe
     board.channels = channels;
     board.owed = left;
     Answered { answer, board }
+}
+
+// How many ticks the call makes where they are all quiet, else 0.
+pub fn quiet_run(c0: Channel, c1: Channel, c2: Channel, owed: TimerTicks, stated: u32) -> u32
+    ensures { λ r. ⌜ QuietRun c0 c1 c2 (owed .0) stated r ⌝ }
+{
+    if 65536 < stated {
+        return 0;
+    }
+    let run = alike(stated, owed.0, c0, c1, c2);
+    if run < least(stated, owed.0) {
+        return 0;
+    }
+    run
 }
