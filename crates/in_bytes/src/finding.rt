@@ -37,9 +37,7 @@ pub fn part_of(operation: Operation, owing: bool) -> Part
     ensures { λ r. ⌜ FindsPart (partOf owing operation) r ⌝ }
 {
     match operation {
-        Operation::WritePort(port, byte) => {
-            Part::Turned(finding::write_turn(port, byte, owing))
-        }
+        Operation::WritePort(port, byte) => { Part::Turned(finding::write_turn(port, byte, owing)) }
         Operation::ReadPort(port) => Part::Turned(finding::read_turn(port)),
         Operation::SetChannelGate(channel, level) => {
             Part::Turned(finding::gate_turn(channel, level, owing))

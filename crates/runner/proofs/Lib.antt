@@ -2,3 +2,4 @@ pub mod Turns
 pub mod Whole
 pub mod Lent
 pub mod Apart
+pub mod Ticks

@@ -1,17 +1,19 @@
 // The whole replay of a trace: from its bytes to the bytes that are printed, or to its answers in bytes. Nothing is put before the whole trace is judged.
 //
-// `tell` is the runner: one loop that owns the board and changes it where it stands. No function that the loop calls takes or hands back a board, but for the one that
-// works ticks off, and each arm ends in its own `say`: arms that meet would have the board moved. answering.rt has an answer in bytes, lending.rt replays into lent bytes of any length.
+// `tell` is the runner: one loop that owns the board and changes it where it stands. No function that the loop calls takes or hands back a board, and each arm ends in its
+// own `say`: arms that meet would have the board moved. answering.rt has an answer in bytes, lending.rt replays into lent bytes of any length.
 mod answering;
 pub mod lending;
 
 use board::Answer;
 use board::Board;
+use board::Worked;
 pub use lending::answers_into;
 pub use lending::replay_into;
 use line::Line;
 use line::sentence::Sentence;
 use time::SystemTicks;
+use time::TimerTicks;
 use trace::head::Head;
 use trace::head::Judged;
 use turn::finding::Turn;
@@ -19,6 +21,8 @@ use turn::finding::Work;
 ghost use mathlib.Core.Path.{_≡_};
 ghost use Prim.Native.Nat.{_+_, _*_, _≤_};
 ghost use lib.ListN.{length, take};
+ghost use Rattle.refusal.specs.Reply.{accepted};
+ghost use Rattle.board.specs.Outcome.{worked};
 ghost use Rattle.board.specs.Answer.{replyOf};
 ghost use Rattle.line.specs.Line.{lineRoom};
 ghost use Rattle.text.specs.Put.{put, answered};
@@ -75,6 +79,14 @@ fn say(
             text::put(out, place, &bytes)
         }
     }
+}
+
+// So many ticks, with no event.
+fn all_made(run: u32) -> Answer
+    ensures { λ r. ⌜ replyOf r ≡ accepted (worked run 0) ⌝ }
+{
+    let made = TimerTicks(run);
+    Answer::Worked(Worked { made, place: 0 })
 }
 
 // What is said of the operations from the first index on, as many as are asked for. A replay from the start begins at 0; one from a later board will not.
@@ -200,15 +212,56 @@ fn tell(
                 let left = b.remainder;
                 at = say(form, out, at, index, Answer::Done, none, left);
             }
-            // Many ticks are made in one call, so what it takes to hand the board over and back is small beside the work.
             Turn::WorkOff(stated) => {
-                let mut six = [0u8; 6];
-                let worked = owed::work_off(b, stated, &mut six, 0);
-                let next = worked.board;
-                b = next;
-                let answer = worked.answer;
-                let left = b.remainder;
-                at = say(form, out, at, index, answer, six, left);
+                let c0 = b.channels[0];
+                let c1 = b.channels[1];
+                let c2 = b.channels[2];
+                let run = owed::quiet_run(c0, c1, c2, owing, stated);
+                // Where the ticks of the call are all quiet they move four numbers of each channel and nothing else. A call that makes the whole record would cost more
+                // than the ticks.
+                if 0 < run {
+                    let s0 = quiet::skipped(c0, run);
+                    let mut d0 = c0;
+                    d0.counter.cycles_in_state = s0.cycles_in_state;
+                    d0.counter.counting_element = s0.counting_element;
+                    d0.counter.ticked = s0.ticked;
+                    d0.latch.output_latch = s0.output_latch;
+                    b.channels[0] = d0;
+                    let s1 = quiet::skipped(c1, run);
+                    let mut d1 = c1;
+                    d1.counter.cycles_in_state = s1.cycles_in_state;
+                    d1.counter.counting_element = s1.counting_element;
+                    d1.counter.ticked = s1.ticked;
+                    d1.latch.output_latch = s1.output_latch;
+                    b.channels[1] = d1;
+                    let s2 = quiet::skipped(c2, run);
+                    let mut d2 = c2;
+                    d2.counter.cycles_in_state = s2.cycles_in_state;
+                    d2.counter.counting_element = s2.counting_element;
+                    d2.counter.ticked = s2.ticked;
+                    d2.latch.output_latch = s2.output_latch;
+                    b.channels[2] = d2;
+                    let fewer = owing.0 - run;
+                    let owes = TimerTicks(fewer);
+                    b.owed = owes;
+                    let left = b.remainder;
+                    at = say(form, out, at, index, all_made(run), none, left);
+                } else {
+                    let mut six = [0u8; 6];
+                    let model = b.model;
+                    let worked = owed::work_channels(c0, c1, c2, model, owing, stated, &mut six, 0);
+                    let t0 = worked.c0;
+                    let t1 = worked.c1;
+                    let t2 = worked.c2;
+                    b.channels[0] = t0;
+                    b.channels[1] = t1;
+                    b.channels[2] = t2;
+                    let owes = worked.owed;
+                    b.owed = owes;
+                    let answer = worked.answer;
+                    let left = b.remainder;
+                    at = say(form, out, at, index, answer, six, left);
+                }
             }
             Turn::Say(answer) => {
                 let left = b.remainder;

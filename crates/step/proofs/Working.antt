@@ -10,9 +10,9 @@ use lib.ListN.{length}
 use borrow.Author.Tests.{ltb-false, eqb-false}
 use Rattle.channel.proofs.Pick.{pick-knowing}
 use Rattle.board.specs.declared.Board.{Board}
-use Rattle.owed.specs.BoardTick.{boardTick, tickEvent}
+use Rattle.owed.specs.BoardTick.{boardTick}
 use Rattle.owed.specs.Worked.{Work, needed, oneMore, full, stops, workOn, begun}
-use Rattle.owed.proofs.Puts.{puts-fit}
+use Rattle.owed.proofs.Puts.{putAll-fits}
 use Rattle.step.specs.Time.{TimeKept}
 
 -- how the board and the lent bytes of a call stand to those that it was given, after any number of its ticks
@@ -35,7 +35,7 @@ module _ (b : Board) (events : List ℕ) where
       let goes = neither (eqb (w .board .owed .0) 0) (full w) on in
       let owes : w .board .owed .0 ≡ 0 → ⊥ = eqb-false _ _ (goes .0) in
       let room : needed (w .board) ≤ length (w .room .bytes) - w .room .place = ltb-false _ _ (goes .1) in
-      let fit = puts-fit (tickEvent (w .board) 0) (tickEvent (w .board) 1) (tickEvent (w .board) 2) (w .room) (omega arith) in
+      let fit = putAll-fits (w .board) (w .room) (omega arith) in
       record {
         kept = record {
           model-kept = so-far .kept .model-kept;

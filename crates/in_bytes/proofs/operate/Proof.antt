@@ -18,7 +18,7 @@ use Rattle.in_bytes.proofs.operate.Statement.{statement}
 use Rattle.in_bytes.proofs.operate.Tie as tie
 
 returns : tie.Need-returns
-returns c = 
+returns c =
     let a = c .before .before .before .before .before .before .before .before .before .before .before .before .before .before .before .before .args in
     let board = boardIn (now (a .bytes)) in
     let part = sym (c .before .before .before .before .before .before .before .before .part .given .1) ∙ c .before .before .before .before .before .before .before .before .before .before .part-of .ensures .0 ∙ ap (λ (t : TimerTicks). partOf (not (eqb (t .0) 0)) (a .operation)) (c .before .before .before .before .before .before .before .before .before .before .before .before .owed-in .ensures) in
@@ -27,7 +27,7 @@ returns c =
     ∙ ap (λ o. operated o (now (a .bytes))) (sym (part-made board (a .operation) (now (a .events)) (a .place)))
 
 returns-2 : tie.Need-returns-2
-returns-2 c = 
+returns-2 c =
     let a = c .before .before .before .before .before .before .before .before .before .before .before .before .before .args in
     let board = boardIn (now (a .bytes)) in
     let part = sym (c .before .before .before .before .before .part2 .given .1) ∙ c .before .before .before .before .before .before .before .part-of .ensures .0 ∙ ap (λ (t : TimerTicks). partOf (not (eqb (t .0) 0)) (a .operation)) (c .before .before .before .before .before .before .before .before .before .owed-in .ensures) in
@@ -36,7 +36,7 @@ returns-2 c =
     ∙ ap (λ o. operated o (now (a .bytes))) (sym (part-made board (a .operation) (now (a .events)) (a .place)))
 
 returns-3 : tie.Need-returns-3
-returns-3 c = 
+returns-3 c =
     let a = c .before .before .before .before .before .before .before .before .before .before .before .before .args in
     let board = boardIn (now (a .bytes)) in
     let part = sym (c .before .before .before .before .enum-told .given .1) ∙ c .before .before .before .before .before .before .part-of .ensures .0 ∙ ap (λ (t : TimerTicks). partOf (not (eqb (t .0) 0)) (a .operation)) (c .before .before .before .before .before .before .before .before .owed-in .ensures) in

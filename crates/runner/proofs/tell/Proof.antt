@@ -4,13 +4,13 @@ use mathlib.Core.List.{List}
 use mathlib.Core.Path.{_≡_, refl, sym, ap, subst, _∙_}
 use native.Mathlib.Omega.{arith}
 use denote.Ref.{now}
-use lib.ListN.{length}
+use lib.ListN.{length, take, length-map}
 use borrow.Author.Needs.{needs}
 use Rattle.channel.specs.declared.Channel.{Channel}
+use Rattle.board.specs.declared.Board.{Board}
 use Rattle.board.specs.Board.{channelAt}
 use Rattle.board.specs.Outcome.{Outcome}
 use Rattle.board.specs.Making.{restored}
-use Rattle.board.specs.Answer.{replyOf}
 use Rattle.text.specs.Put.{put, answered}
 use Rattle.trace.specs.Trace.{operationsFrom}
 use Rattle.trace.specs.Answer.{operationsOf}
@@ -20,11 +20,11 @@ use Rattle.turn.specs.declared.finding.Work.{Work}
 use Rattle.turn.specs.declared.finding.Turn.the-variants.{OnChannel}
 use Rattle.turn.specs.Asked.{lent}
 use Rattle.turn.specs.Turn.{WorkDone, TimeDone, changed, readDone, unheard, workOn, workedOn, timedOn, turnedInSix, doneInSix, OnBoard}
-use Rattle.turn.proofs.Padded.{six-padded}
 use Rattle.turn.proofs.Room.{latch-unheard, nothing-unheard}
 use Rattle.turn.proofs.Recorded.{turn-made}
 use Rattle.latch.specs.declared.reading.ByteRead.{ByteRead}
 use Rattle.runner.specs.Printed.{roomOf, saidOf}
+use Rattle.runner.proofs.Ticks.{three-left, all-quiet, some-made}
 use Rattle.runner.proofs.Turns.{Running, begun, goes-on, ended}
 use Rattle.runner.proofs.tell.Statement.{statement}
 use Rattle.runner.proofs.tell.Tie as tie
@@ -140,30 +140,43 @@ loop-again-9 c =
     let b = turn t .loop .b in
     next t _ (ap (turnedInSix b) (c .before .before .before .before .before .before .before .before .before .before .before .enum-told4 .given .1) ∙ simp (c .before .before .before .before .before .before .before .reset .ensures, c .before .before .before .before .before .before .reset2 .ensures, c .before .before .before .before .before .reset3 .ensures)) _ _ (c .before .before .say9 .ensures)
 
--- ticks worked off: all six lent bytes are told
+three : (t : Turned) → length (turn t .loop .b .channels) ≡ 3
+three t =
+    let s = start t in
+    -- owning the board tells how long its array is
+    let begun = sym (length-map (s .args .start .channels) _) ∙ s .good .1 .1 .0 .1 .1 .0 .1 .0 .1 in
+    ap (λ (b : Board). length (b .channels)) (turn t .loop .inv .1 .board-is) ∙ three-left (s .args .start) begun (take (turn t .loop .j) (operationsOf (operationsFrom (now (s .args .trace)) (s .args .first) (s .args .number))))
+
+-- ticks worked off that are all quiet
 loop-again-10 : tie.Need-loop-again-10 Inv-loop μ-loop
 loop-again-10 c =
-    let t = c .before .before .before .before .before .before .before .before .before .before .before .before in
+    let t = c .before .before .before .before .before .before .before .before .before .before .before .before .before .before .before .before .before .before .before .before .before .before .before .before .before .before .before .before .before .before in
     let b = turn t .loop .b in
-    let made = c .before .before .before .before .before .before .before .work-off in
-    let lent = made .last .1 .1 .0 in
-    let long : length lent ≡ 6 = search needs in
-    let told = ap {B = Outcome} (λ (events : List ℕ). record { reply = replyOf (made .result .answer); board = made .result .board; events = events }) (six-padded lent long) in
-    next t _ (ap (turnedInSix b) (c .before .before .before .before .before .before .before .before .before .before .turn3 .given .1) ∙ ap inSix (sym (made .ensures)) ∙ told) _ _ (c .before .before .say10 .ensures)
+    next t _ (ap (turnedInSix b) (c .before .before .before .before .before .before .before .before .before .before .before .before .before .before .before .before .before .before .before .before .before .before .before .before .before .before .before .before .turn3 .given .1) ∙ all-quiet b (three t) _ _ (c .before .before .before .before .before .before .before .before .before .before .before .before .before .before .before .before .before .before .before .before .before .before .before .quiet-run .ensures) (c .before .before .before .before .before .before .before .before .before .before .before .before .before .before .before .before .before .before .before .before .before .before .if1 .taken) _ _ _ (c .before .before .before .before .before .before .before .before .before .before .before .before .before .before .before .before .before .before .before .before .before .skipped .ensures) (c .before .before .before .before .before .before .before .before .before .before .before .before .before .before .before .before .skipped2 .ensures) (c .before .before .before .before .before .before .before .before .before .before .before .skipped3 .ensures) _ (c .before .before .before .all-made .ensures)) _ _ (c .before .before .say10 .ensures)
 
--- what leaves the board as it is
+-- .. and others: all six lent bytes are told
 loop-again-11 : tie.Need-loop-again-11 Inv-loop μ-loop
 loop-again-11 c =
-    let t = c .before .before .before .before .before .before .before .before in
+    let t = c .before .before .before .before .before .before .before .before .before .before .before .before .before .before .before .before .before .before .before .before in
     let b = turn t .loop .b in
-    next t _ (ap (turnedInSix b) (c .before .before .before .before .before .before .turn4 .given .1)) _ _ (c .before .before .say11 .ensures)
+    let made = c .before .before .before .before .before .before .before .before .before .before .work-channels in
+    let lent = made .last .1 .1 .1 .1 .1 .1 .0 in
+    let long : length lent ≡ 6 = search needs in
+    next t _ (ap (turnedInSix b) (c .before .before .before .before .before .before .before .before .before .before .before .before .before .before .before .before .before .before .turn3 .given .1) ∙ some-made b (three t) _ (made .result) lent long (made .ensures)) _ _ (c .before .before .say11 .ensures)
 
--- a command that does nothing
+-- what leaves the board as it is
 loop-again-12 : tie.Need-loop-again-12 Inv-loop μ-loop
 loop-again-12 c =
+    let t = c .before .before .before .before .before .before .before .before in
+    let b = turn t .loop .b in
+    next t _ (ap (turnedInSix b) (c .before .before .before .before .before .before .turn4 .given .1)) _ _ (c .before .before .say12 .ensures)
+
+-- a command that does nothing
+loop-again-13 : tie.Need-loop-again-13 Inv-loop μ-loop
+loop-again-13 c =
     let t = c .before .before .before .before .before .before .before in
     let b = turn t .loop .b in
-    next t _ (ap (turnedInSix b) (c .before .before .before .before .before .enum-told5 .given .1) ∙ nothing-unheard b) _ _ (c .before .before .say12 .ensures)
+    next t _ (ap (turnedInSix b) (c .before .before .before .before .before .enum-told5 .given .1) ∙ nothing-unheard b) _ _ (c .before .before .say13 .ensures)
 
 returns : tie.Need-returns Inv-loop μ-loop
 returns c =
@@ -269,17 +282,35 @@ tell-spec =
     loop-again-9
     (λ c. search needs)
     (λ c. search needs)
+    (λ c. search needs)
+    (λ c. search needs)
+    (λ c κs. search needs)
+    (λ c κs. c .before .quiet-run .ensures .few)
+    (λ c. search needs)
+    (λ c κs. c .before .before .before .before .before .before .quiet-run .ensures .few)
+    (λ c. search needs)
+    (λ c κs. c .before .before .before .before .before .before .before .before .before .before .before .quiet-run .ensures .few)
+    (λ c. search needs)
+    (λ c. c .before .before .before .before .before .before .before .before .before .before .before .before .before .before .before .before .before .quiet-run .ensures .in-owed)
     (λ c κs. search needs)
     (λ c κs. search needs)
-    (λ c. less (c .before .before .before .before .before .before .before .before .before .before .before .before))
+    (λ c. less (c .before .before .before .before .before .before .before .before .before .before .before .before .before .before .before .before .before .before .before .before .before .before .before .before .before .before .before .before .before .before))
     loop-again-10
     (λ c. search needs)
     (λ c κs. search needs)
-    (λ c. less (c .before .before .before .before .before .before .before .before))
+    (λ c. search needs)
+    (λ c. search needs)
+    (λ c. search needs)
+    (λ c κs. search needs)
+    (λ c. less (c .before .before .before .before .before .before .before .before .before .before .before .before .before .before .before .before .before .before .before .before))
     loop-again-11
     (λ c. search needs)
     (λ c κs. search needs)
-    (λ c. less (c .before .before .before .before .before .before .before))
+    (λ c. less (c .before .before .before .before .before .before .before .before))
     loop-again-12
+    (λ c. search needs)
+    (λ c κs. search needs)
+    (λ c. less (c .before .before .before .before .before .before .before))
+    loop-again-13
     (λ c. c .before .loop .inv .1 .same-length)
     returns)

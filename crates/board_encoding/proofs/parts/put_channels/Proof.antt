@@ -11,7 +11,7 @@ use Rattle.board_encoding.proofs.parts.put_channels.Statement.{statemen
 use Rattle.board_encoding.proofs.parts.put_channels.Tie as tie
 
 returns : tie.Need-returns
-returns c = 
+returns c =
     let start = c .before .before .before .before .before .before .before .before .before .before .before .before .before .before .before .before .before .before .before .before .before .before .before .before .before in
     let a = start .args in
     let c0 = c .before .before .before .before .before .before .before .before .before .before .before .before .before .before .before .before .before .before .before .before .before .before .before .channel-bytes in

@@ -15,7 +15,7 @@ use Rattle.in_bytes.proofs.working.ask.Statement.{statement}
 use Rattle.in_bytes.proofs.working.ask.Tie as tie
 
 returns : tie.Need-returns
-returns c = 
+returns c =
     let a = c .before .before .before .before .before .before .before .args in
     let same = kept (now (a .bytes)) (λ p. omega (arith, c .before .before .before .before .before .before .slice-known .given p)) (c .before .before .before .before .before .before .before .pre .1) in
     let answer = c .before .get-output-state .ensures ∙ ap channel.getOutputState (c .before .before .before .before .channel-in .ensures) in
@@ -23,7 +23,7 @@ returns c =
     ∙ ap (λ q. written (asked (boardIn (now (a .bytes))) (a .n) q events) (now (a .bytes))) (sym (c .before .before .enum-told .given .1))
 
 returns-2 : tie.Need-returns-2
-returns-2 c = 
+returns-2 c =
     let a = c .before .before .before .before .before .before .before .args in
     let same = kept (now (a .bytes)) (λ p. omega (arith, c .before .before .before .before .before .before .slice-known .given p)) (c .before .before .before .before .before .before .before .pre .1) in
     let answer = c .before .get-channel-count .ensures ∙ ap channel.getChannelCount (c .before .before .before .before .channel-in .ensures) in
@@ -31,7 +31,7 @@ returns-2 c =
     ∙ ap (λ q. written (asked (boardIn (now (a .bytes))) (a .n) q events) (now (a .bytes))) (sym (c .before .before .enum-told2 .given .1))
 
 returns-3 : tie.Need-returns-3
-returns-3 c = 
+returns-3 c =
     let a = c .before .before .before .before .before .before .before .args in
     let same = kept (now (a .bytes)) (λ p. omega (arith, c .before .before .before .before .before .before .slice-known .given p)) (c .before .before .before .before .before .before .before .pre .1) in
     let answer = c .before .does-channel-retrigger .ensures ∙ ap channel.doesChannelRetrigger (c .before .before .before .before .channel-in .ensures) in
@@ -39,7 +39,7 @@ returns-3 c =
     ∙ ap (λ q. written (asked (boardIn (now (a .bytes))) (a .n) q events) (now (a .bytes))) (sym (c .before .before .enum-told3 .given .1))
 
 returns-4 : tie.Need-returns-4
-returns-4 c = 
+returns-4 c =
     let a = c .before .before .before .before .before .before .before .before .before .before .before .before .args in
     let board = boardIn (now (a .bytes)) in
     λ events. (λ i. told (c .numbers-of4 .ensures i) (c .before .before .before .put-channel .ensures i) events)

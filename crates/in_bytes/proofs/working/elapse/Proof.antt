@@ -9,7 +9,7 @@ use Rattle.in_bytes.proofs.working.elapse.Statement.{statement}
 use Rattle.in_bytes.proofs.working.elapse.Tie as tie
 
 returns : tie.Need-returns
-returns c = 
+returns c =
     let a = c .before .before .before .before .before .before .before .before .before .before .before .before .before .before .before .before .before .before .before .before .args in
     let board = boardIn (now (a .bytes)) in
     let done = c .before .before .before .before .before .before .before .before .elapse .ensures ∙ (λ i. timeAfter (a .given .0) (a .next .0) (a .defers) (c .before .before .before .before .before .before .before .before .before .before .before .before .before .before .before .before .before .divisor-in .ensures i) (c .before .before .before .before .before .before .before .before .before .before .before .before .before .before .before .remainder-in .ensures i .0) (c .before .before .before .before .before .before .before .before .before .before .before .before .before .warp-in .ensures i .0) (c .before .before .before .before .before .before .before .before .before .before .before .defer-in .ensures i) (c .before .before .before .before .before .before .before .before .before .owed-in .ensures i .0)) in

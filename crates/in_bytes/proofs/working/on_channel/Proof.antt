@@ -9,7 +9,7 @@ use Rattle.in_bytes.proofs.working.on_channel.Statement.{statement}
 use Rattle.in_bytes.proofs.working.on_channel.Tie as tie
 
 returns : tie.Need-returns
-returns c = 
+returns c =
     let a = c .before .before .before .before .before .before .before .before .before .before .before .before .before .before .before .before .before .before .args in
     let board = boardIn (now (a .bytes)) in
     let done = c .before .before .before .before .before .before .before .before .work-on .ensures ∙ (λ i. workOn (c .before .before .before .before .before .before .before .before .before .before .before .before .before .before .channel-in .ensures i) (a .n) (a .work) (c .before .before .before .before .before .before .before .before .before .before .before .before .model-in .ensures i) (c .before .before .before .before .before .before .before .before .before .before .defer-in .ensures i) (now (a .events)) (a .place)) in

@@ -13,7 +13,7 @@ use Rattle.in_bytes.proofs.working.reset.Tie as tie
 
 returns : tie.Need-returns
 unfolding restored
-returns c = 
+returns c =
     let a = c .before .before .before .before .before .before .before .before .before .before .before .before .before .before .before .before .before .args in
     let board = boardIn (now (a .bytes)) in
     let first = c .before .before .before .before .before .before .reset .ensures ∙ ap channel.reset (c .before .before .before .before .before .before .before .before .before .before .before .before .before .before .channel-in .ensures) in

@@ -14,27 +14,27 @@ on-channel-requires : tie.Need-on-channel-requires
 on-channel-requires c κs = (subst OnBoard (c .before .before .before .turn .given .1) (c .before .before .before .before .before .before .before .pre .0), c .before .before .before .before .before .before .before .pre .1)
 
 returns : tie.Need-returns
-returns c = 
+returns c =
     let a = c .before .before .before .before .before .before .before .before .before .before .before .before .args in
     c .before .before .before .before .on-channel .ensures ∙ ap (λ t. written (turned (boardIn (now (a .bytes))) t (now (a .events)) (a .place)) (now (a .bytes))) (sym (c .before .before .before .before .before .before .before .before .turn .given .1))
 
 returns-2 : tie.Need-returns-2
-returns-2 c = 
+returns-2 c =
     let a = c .before .before .before .before .before .before .before .before .before .args in
     c .before .before .elapse .ensures (now (a .events)) (a .place) ∙ ap (λ t. written (turned (boardIn (now (a .bytes))) t (now (a .events)) (a .place)) (now (a .bytes))) (sym (c .before .before .before .before .before .turn2 .given .1))
 
 returns-3 : tie.Need-returns-3
-returns-3 c = 
+returns-3 c =
     let a = c .before .before .before .before .before .before .before .before .args in
     c .before .before .reset .ensures (now (a .events)) (a .place) ∙ ap (λ t. written (turned (boardIn (now (a .bytes))) t (now (a .events)) (a .place)) (now (a .bytes))) (sym (c .before .before .before .before .enum-told .given .1))
 
 returns-4 : tie.Need-returns-4
-returns-4 c = 
+returns-4 c =
     let a = c .before .before .before .before .before .before .before .before .before .before .before .before .args in
     c .before .before .before .before .work-off .ensures ∙ ap (λ t. written (turned (boardIn (now (a .bytes))) t (now (a .events)) (a .place)) (now (a .bytes))) (sym (c .before .before .before .before .before .before .before .before .turn3 .given .1))
 
 returns-5 : tie.Need-returns-5
-returns-5 c = 
+returns-5 c =
     let a = c .before .before .before .before .before .before .before .before .before .args in
     let same = kept (now (a .bytes)) (λ p. omega (arith, c .before .before .before .before .before .before .before .before .slice-known .given p)) (c .before .before .before .before .before .before .before .before .before .pre .1) in
     (λ i. told (c .numbers-of .ensures i) (sym same i) (c .before .before .before .untouched .last .0))
@@ -42,7 +42,7 @@ returns-5 c =
     ∙ ap (λ t. written (turned (boardIn (now (a .bytes))) t (now (a .events)) (a .place)) (now (a .bytes))) (sym (c .before .before .before .before .before .enum-told2 .given .1))
 
 returns-6 : tie.Need-returns-6
-returns-6 c = 
+returns-6 c =
     let a = c .before .before .before .before .before .before .args in
     let same = kept (now (a .bytes)) (λ p. omega (arith, c .before .before .before .before .before .slice-known .given p)) (c .before .before .before .before .before .before .pre .1) in
     (λ i. told (c .numbers-of2 .ensures i) (sym same i) (now (a .events)))

@@ -12,7 +12,7 @@ use Rattle.in_bytes.proofs.working.work_off.Statement.{statement}
 use Rattle.in_bytes.proofs.working.work_off.Tie as tie
 
 returns : tie.Need-returns
-returns c = 
+returns c =
     let a = c .before .before .before .before .before .before .before .before .before .before .before .before .before .before .before .before .before .before .before .before .before .before .before .before .before .args in
     let board = boardIn (now (a .bytes)) in
     let worked = c .before .before .before .before .before .before .before .before .before .before .before .work-channels in

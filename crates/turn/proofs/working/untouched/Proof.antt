@@ -8,13 +8,13 @@ use Rattle.turn.proofs.working.untouched.Tie as tie
 
 returns : tie.Need-returns
 unfolding untouched
-returns c = 
+returns c =
     let said = c .before .before .before .before .before .place-event in
     λ board. ap (placedOn board board) (ap (λ p. placing p (said .last .0)) (sym (c .before .placed .given .1)) ∙ said .ensures)
 
 returns-2 : tie.Need-returns-2
 unfolding untouched
-returns-2 c = 
+returns-2 c =
     let said = c .before .before .before .before .before .place-event in
     λ board. ap (placedOn board board) (ap (λ p. placing p (said .last .0)) (sym (c .before .placed2 .given .1)) ∙ said .ensures)
 
