@@ -2,4 +2,3 @@ pub mod Filled
 pub mod Length
 pub mod Back
 pub mod Only
-pub mod Standing

@@ -1,4 +1,3 @@
 pub mod Stored
 pub mod Loaded
 pub mod Range
-pub mod Parts

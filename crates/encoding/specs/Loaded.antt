@@ -12,6 +12,7 @@ use Rattle.channel.specs.declared.Load.{Load}
 use Rattle.channel.specs.declared.Counter.{Counter}
 use Rattle.channel.specs.declared.Latch.{Latch}
 use Rattle.channel.specs.declared.Pins.{Pins}
+use Rattle.channel.specs.Fresh.{fresh}
 use Rattle.channel.specs.Modes.{modeNumbered}
 use Rattle.encoding.specs.declared.loading.Loaded.{Loaded}
 use Rattle.encoding.specs.declared.loading.Loaded.the-variants.{Whole, Short, Unreadable}
@@ -31,6 +32,10 @@ readableTo (suc k) bytes = cond (ltb (getD limits k 0) (getD bytes k 0)) false (
 -- "A record is readable when all its 29 bytes are."
 abbrev pub readable : List ℕ → Bool
 readable = readableTo 29
+
+-- .. and they are there
+abbrev pub isRecord : List ℕ → Bool
+isRecord bytes = cond (ltb (length bytes) 29) false (readable bytes)
 
 abbrev pub flagAt : List ℕ → ℕ → Bool
 flagAt bytes k = flagCoded (getD bytes k 0)
@@ -84,6 +89,10 @@ channelAt bytes =
       pins = pinsAt bytes;
       dirty = flagAt bytes 28;
     }
+
+-- what the code spells of any bytes: the fresh channel of too few
+abbrev pub recordIn : List ℕ → Channel
+recordIn bytes = cond (ltb (length bytes) 29) fresh (channelAt bytes)
 
 -- "101 fewer bytes of record .. than it has", "102 the record .. is not readable"
 unfoldable pub loadChannel : List ℕ → Loaded

@@ -11,7 +11,7 @@ use channel::Reloading;
 ghost use mathlib.Core.Path.{_≡_};
 ghost use Prim.Native.Nat.{_≤_};
 ghost use lib.ListN.{length};
-ghost use Rattle.encoding.specs.Loaded.{readable, controlAt, reloadingAt, loadAt, counterAt, latchAt, pinsAt, channelAt, loadChannel};
+ghost use Rattle.encoding.specs.Loaded.{isRecord, recordIn, controlAt, reloadingAt, loadAt, counterAt, latchAt, pinsAt, loadChannel};
 
 // What loading a channel finds.
 pub enum Loaded {
@@ -55,10 +55,13 @@ const LIMITS: [u8; 29] = [
     1,
 ];
 
+// Fewer bytes than a record has are none.
 pub fn readable(bytes: &[u8]) -> bool
-    requires { ⌜ 29 ≤ length (now bytes) ⌝ }
-    ensures { λ r. ⌜ r ≡ readable (now (bytes .entry)) ⌝ }
+    ensures { λ r. ⌜ r ≡ isRecord (now (bytes .entry)) ⌝ }
 {
+    if bytes.len() < 29 {
+        return false;
+    }
     let limits = LIMITS;
     let mut i = 0;
     while i < 29 {
@@ -147,10 +150,13 @@ fn pins_at(bytes: &[u8]) -> Pins
     }
 }
 
+// The channel that the bytes spell, readable or not. For fewer bytes than a record has it is the fresh one.
 pub fn channel_at(bytes: &[u8]) -> Channel
-    requires { ⌜ 29 ≤ length (now bytes) ⌝ }
-    ensures { λ r. ⌜ r ≡ channelAt (now (bytes .entry)) ⌝ }
+    ensures { λ r. ⌜ r ≡ recordIn (now (bytes .entry)) ⌝ }
 {
+    if bytes.len() < 29 {
+        return Channel::fresh();
+    }
     let control = control_at(bytes);
     let reloading = reloading_at(bytes);
     let load = load_at(bytes);

@@ -1,2 +1,4 @@
-pub mod Part
+pub mod Standing
 pub mod Three
+pub mod Part
+pub mod Calls

@@ -1,2 +1,4 @@
+pub mod Parts
 pub mod Written
 pub mod Part
+pub mod Called

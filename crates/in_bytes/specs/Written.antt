@@ -2,7 +2,7 @@
 use Prim.Native.Nat.{ℕ}
 use mathlib.Core.List.{List}
 use Rattle.board.specs.Outcome.{Outcome}
-use Rattle.board_encoding.specs.Parts.{stored}
+use Rattle.in_bytes.specs.Parts.{stored}
 use Rattle.board_operation.specs.declared.making.Numbers.{Numbers}
 use Rattle.board_operation.specs.Made.{Outcome-in-numbers, numbersOf}
 

@@ -1,28 +1,51 @@
-// What an operation does to the part of the board that it is about: taken out of the bytes, done by value, put back.
+// One operation on a board in lent bytes: what it does to the part that it is about, taken out of the bytes, done by value and put back.
+use crate::board_readable;
+use crate::channel_in;
+use crate::defer_in;
+use crate::divisor_in;
+use crate::finding::Part;
 use crate::finding::Query;
+use crate::finding::part_of;
+use crate::model_in;
+use crate::owed_in;
+use crate::put_channel;
+use crate::put_channels;
+use crate::put_time;
+use crate::remainder_in;
+use crate::warp_in;
 use board::Answer;
-use board_encoding::channel_in;
-use board_encoding::defer_in;
-use board_encoding::divisor_in;
-use board_encoding::model_in;
-use board_encoding::owed_in;
-use board_encoding::put_channel;
-use board_encoding::put_channels;
-use board_encoding::put_time;
-use board_encoding::remainder_in;
-use board_encoding::warp_in;
+use board_operation::Operation;
+use board_operation::asked::Asked;
 use board_operation::making::Numbers;
-use board_operation::making::numbers_of;
+use board_operation::numbers_of;
+use board_operation::saying;
 use time::SystemTicks;
 use turn::finding::Turn;
 use turn::finding::Work;
 ghost use mathlib.Core.List.{List};
 ghost use mathlib.Core.Path.{_≡_};
 ghost use Prim.Native.Nat.{ℕ, _<_};
-ghost use Rattle.board_encoding.specs.Parts.{boardIn, Holds};
 ghost use Rattle.turn.specs.Turn.{turned, OnBoard};
+ghost use Rattle.board_operation.specs.Made.{operate};
+ghost use Rattle.in_bytes.specs.Parts.{boardIn, Holds};
 ghost use Rattle.in_bytes.specs.Part.{asked};
-ghost use Rattle.in_bytes.specs.Written.{told, written};
+ghost use Rattle.in_bytes.specs.Written.{told, written, operated};
+ghost use Rattle.in_bytes.specs.Called.{calling, call};
+
+// What a call comes to, before its answer is written.
+pub enum Called {
+    // Fewer bytes than a board has.
+    Short,
+    // A byte above its limit.
+    Unreadable,
+    // No operation of the table.
+    Unknown,
+    // Fewer bytes lent than the answer has.
+    NoRoom,
+    // By the board, which stays as it is.
+    Refused(u8),
+    Made(Numbers),
+}
 
 fn on_channel(bytes: &mut [u8], n: u8, work: Work, events: &mut [u8], place: usize) -> Numbers
     requires { ⌜ n < 3 ⌝ }
@@ -91,7 +114,7 @@ fn work_off(bytes: &mut [u8], stated: u32, events: &mut [u8], place: usize) -> N
 }
 
 // A turn's channel is one of the board's.
-pub(crate) fn turn_in(bytes: &mut [u8], turn: Turn, events: &mut [u8], place: usize) -> Numbers
+fn turn_in(bytes: &mut [u8], turn: Turn, events: &mut [u8], place: usize) -> Numbers
     requires { ⌜ OnBoard turn ⌝ }
     requires { ⌜ Holds (now bytes) ⌝ }
     ensures { λ r. ⌜ told r (now (bytes .exit)) (now (events .exit)) ≡ written (turned (boardIn (now (bytes .entry))) turn (now (events .entry)) place) (now (bytes .entry)) ⌝ }
@@ -106,7 +129,7 @@ pub(crate) fn turn_in(bytes: &mut [u8], turn: Turn, events: &mut [u8], place: us
     }
 }
 
-pub(crate) fn ask(bytes: &mut [u8], n: u8, query: Query) -> Numbers
+fn ask(bytes: &mut [u8], n: u8, query: Query) -> Numbers
     requires { ⌜ n < 3 ⌝ }
     requires { ⌜ Holds (now bytes) ⌝ }
     ensures { λ r. ⌜ ((events : List ℕ) → told r (now (bytes .exit)) events ≡ written (asked (boardIn (now (bytes .entry))) n query events) (now (bytes .entry))) ⌝ }
@@ -124,4 +147,49 @@ pub(crate) fn ask(bytes: &mut [u8], n: u8, query: Query) -> Numbers
             numbers_of(Answer::Dirty(got.dirty, got.counting, got.ticked))
         }
     }
+}
+
+fn make(operation: Operation, bytes: &mut [u8], events: &mut [u8], place: usize) -> Numbers
+    requires { ⌜ Holds (now bytes) ⌝ }
+    ensures { λ r. ⌜ told r (now (bytes .exit)) (now (events .exit)) ≡ operated (operate (boardIn (now (bytes .entry))) operation (now (events .entry)) place) (now (bytes .entry)) ⌝ }
+{
+    let owed = owed_in(bytes);
+    let part = part_of(operation, owed.0 != 0);
+    match part {
+        Part::Turned(turn) => turn_in(bytes, turn, events, place),
+        Part::Ask(n, query) => ask(bytes, n, query),
+        Part::TimerAccum => {
+            let left = remainder_in(bytes);
+            saying(left.0 as u64, 0, 0)
+        }
+    }
+}
+
+// Room is the number of bytes lent for the answer. All 105 bytes are looked at first, whatever part of them the operation is about.
+pub fn operate(
+    asked: Asked,
+    room: usize,
+    bytes: &mut [u8],
+    events: &mut [u8],
+    place: usize,
+) -> Called
+    ensures { λ r. ⌜ calling r (now (bytes .exit)) (now (events .exit)) ≡ call asked room place (now (bytes .entry)) (now (events .entry)) ⌝ }
+{
+    if bytes.len() < 105 {
+        return Called::Short;
+    }
+    if board_readable(bytes) {
+        let Asked::Known(operation) = asked else {
+            return Called::Unknown;
+        };
+        if room < 16 {
+            return Called::NoRoom;
+        }
+        let numbers = make(operation, bytes, events, place);
+        if numbers.refusal == 0 {
+            return Called::Made(numbers);
+        }
+        return Called::Refused(numbers.refusal);
+    }
+    Called::Unreadable
 }

@@ -1,50 +1,60 @@
--- What a call on a board comes to where it gets as far as the operation. Assumes nothing.
-use Prim.Native.Nat.{ℕ, _≤_, _<_}
-use mathlib.Core.Bool.{true, false}
+-- What a call on a board comes to once it is known what the operation does to the bytes: its status, and its answer. Assumes nothing.
+use Prim.Native.Nat.{ℕ}
+use mathlib.Core.Bool.{Bool, true, false, cond}
 use mathlib.Core.List.{List}
-use mathlib.Core.Path.{_≡_, sym, ap, _∙_}
-use lib.Dec.{eqb}
-use lib.ListN.{length, getD}
-use borrow.Author.Tests.{le-ltb, eq-eqb, ne-eqb}
+use mathlib.Core.Path.{_≡_, refl}
+use lib.Dec.{eqb, ltb}
+use lib.ListN.{length}
 use Rattle.encoding.specs.Front.{putFront}
-use Rattle.board_encoding.specs.Parts.{boardIn, stored, Holds}
-use Rattle.board_encoding.proofs.Standing.{kept}
-use Rattle.board_operation.specs.declared.Operation.{Operation}
+use Rattle.board.specs.declared.Board.{Board}
+use Rattle.board_encoding.specs.declared.loading.Found.{Found}
+use Rattle.board_encoding.specs.declared.loading.Found.the-variants as found
+use Rattle.board_encoding.specs.Loaded.{loadBoard}
 use Rattle.board_operation.specs.declared.asked.Asked.{Asked}
-use Rattle.board_operation.specs.declared.asked.Asked.the-variants.{Known}
-use Rattle.board_operation.specs.declared.making.Numbers.{Numbers}
-use Rattle.board_operation.specs.Made.{operate}
-use Rattle.board_operation.proofs.Leaves.{refused-leaves-all}
-use Rattle.in_bytes.specs.Written.{InBytes, told, operated}
-use Rattle.pit.specs.Board.{called, numbersAnswer, calledOn}
+use Rattle.board_operation.specs.declared.asked.Asked.the-variants as asked
+use Rattle.board_operation.specs.Asked.{operationOf}
+use Rattle.board_operation.specs.Made.{Outcome-in-numbers, operate}
+use Rattle.in_bytes.specs.declared.working.Called.{Called}
+use Rattle.in_bytes.specs.declared.working.Called.the-variants as door
+use Rattle.in_bytes.specs.Called.{Calling, making, callOn, callFound, call}
+use Rattle.pit.specs.Board as board
+use Rattle.pit.specs.Board.{called, numbersAnswer, settled, calledOn, calledFound, boardOperation}
 
-module _ (bytes events answer : List ℕ) (asked : Asked) (op : Operation) (place : ℕ) (r : Numbers) (after then : List ℕ) (is : asked ≡ Known op)
-    (long : 16 ≤ length answer) (m : told r after then ≡ operated (operate (boardIn bytes) op events place) bytes) where
-  says : r ≡ operate (boardIn bytes) op events place .numbers
-  says = ap (λ (x : InBytes). x .numbers) m
+-- the numbers of docs/ENCODING.md for what the operation came to
+abbrev pub answering : Called → List ℕ → List ℕ → List ℕ → board.Called
+answering door.Short bytes events answer = called 101 bytes events answer
+answering door.Unreadable bytes events answer = called 102 bytes events answer
+answering door.Unknown bytes events answer = called 103 bytes events answer
+answering door.NoRoom bytes events answer = called 104 bytes events answer
+answering (door.Refused number) bytes events answer = called number bytes events answer
+answering (door.Made numbers) bytes events answer = called 0 bytes events (putFront (numbersAnswer numbers) answer)
 
-  leaves : after ≡ stored (operate (boardIn bytes) op events place .board) bytes
-  leaves = ap (λ (x : InBytes). x .bytes) m
+abbrev pub answeredBy : Calling → List ℕ → board.Called
+answeredBy k answer = answering (k .called) (k .bytes) (k .events) answer
 
-  raises : then ≡ operate (boardIn bytes) op events place .events
-  raises = ap (λ (x : InBytes). x .events) m
+module _ (place : ℕ) (bytes events answer : List ℕ) where
+  by-refusal : (o : Outcome-in-numbers) (zero : Bool) → eqb (o .numbers .refusal) 0 ≡ zero → answeredBy (making o bytes) answer ≡ settled o bytes answer
+  by-refusal o true is = rw is refl
+  by-refusal o false is = rw is refl
 
-  -- an operation that is made
-  pub made-called : r .refusal ≡ 0 → (last : List ℕ) → last ≡ putFront (numbersAnswer r) answer
-      → called 0 after then last ≡ calledOn (boardIn bytes) asked place bytes events answer
+  by-room : (b : Board) (o : Outcome-in-numbers) (short : Bool)
+      → answeredBy (cond short (record { called = door.NoRoom; bytes = bytes; events = events }) (making o bytes)) answer
+      ≡ cond short (called 104 bytes events answer) (settled o bytes answer)
+  by-room b o true = refl
+  by-room b o false = by-refusal o (eqb (o .numbers .refusal) 0) refl
+
+  by-asked : (b : Board) (asks : Asked) → answeredBy (callOn b asks (length answer) place bytes events) answer ≡ calledOn b asks place bytes events answer
   unfolding calledOn
-  made-called none last put =
-      let zero : eqb (operate (boardIn bytes) op events place .numbers .refusal) 0 ≡ true = ap (λ (n : Numbers). eqb (n .refusal) 0) (sym says) ∙ eq-eqb (r .refusal) 0 none in
-      rw is (rw (le-ltb (length answer) 16 long) (simp zero
-      (λ i. called 0 (leaves i) (raises i) ((put ∙ ap (λ n. putFront (numbersAnswer n) answer) says) i))))
+  by-asked b asked.Unknown = refl
+  by-asked b (asked.Known op) = by-room b (operate b op events place) (ltb (length answer) 16)
 
-  -- .. and one that is refused: the bytes are as they were
-  pub refused-called : (all : (p : ℕ) → getD bytes p 0 < 256) → Holds bytes → (r .refusal ≡ 0 → ⊥)
-      → called (r .refusal) after then answer ≡ calledOn (boardIn bytes) asked place bytes events answer
-  unfolding calledOn
-  refused-called all h set =
-      let same = ap (λ (n : Numbers). n .refusal) says in
-      let zero : eqb (operate (boardIn bytes) op events place .numbers .refusal) 0 ≡ false = ap (λ (n : Numbers). eqb (n .refusal) 0) (sym says) ∙ ne-eqb (r .refusal) 0 set in
-      let board = refused-leaves-all (boardIn bytes) op events place (λ e. set (same ∙ e)) .0 in
-      let left : after ≡ bytes = leaves ∙ ap (λ b. stored b bytes) board ∙ kept bytes all h in
-      rw is (rw (le-ltb (length answer) 16 long) (simp zero (λ i. called (same i) (left i) (raises i) answer)))
+  by-found : (f : Found) (b : Board) (asks : Asked)
+      → answeredBy (callFound f b asks (length answer) place bytes events) answer ≡ calledFound f b asks place bytes events answer
+  by-found found.Short b asks = refl
+  by-found found.Unreadable b asks = refl
+  by-found found.Whole b asks = by-asked b asks
+
+  pub operation-answered : (code target number : ℕ)
+      → answeredBy (call (operationOf code target number) (length answer) place bytes events) answer ≡ boardOperation code target number place bytes events answer
+  unfolding call boardOperation
+  operation-answered code target number = by-found (loadBoard bytes .found) (loadBoard bytes .board) (operationOf code target number)

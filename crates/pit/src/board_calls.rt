@@ -6,36 +6,19 @@ use crate::UNREADABLE_RECORD;
 use crate::answering;
 use board::Answer;
 use board::Board;
-use board_operation::asked::Asked;
+use board_operation::making::Numbers;
 use channel::PitType;
+use in_bytes::working::Called;
 ghost use mathlib.Core.Path.{_≡_};
-ghost use Rattle.board_encoding.specs.Parts.{boardIn, Holds};
-ghost use Rattle.pit.specs.Board.{newStatus, newAfter, called, calledOn, boardOperation};
+ghost use Rattle.encoding.specs.Front.{putFront};
+ghost use Rattle.pit.specs.Board.{numbersAnswer, newStatus, newAfter, called, boardOperation};
 
-// On bytes that hold a board.
-fn operation_on(
-    bytes: &mut [u8],
-    events: &mut [u8],
-    answer: &mut [u8],
-    place: usize,
-    asked: Asked,
-) -> u32
-    requires { ⌜ Holds (now bytes) ⌝ }
-    ensures { λ r. ⌜ called r (now (bytes .exit)) (now (events .exit)) (now (answer .exit)) ≡ calledOn (boardIn (now (bytes .entry))) asked place (now (bytes .entry)) (now (events .entry)) (now (answer .entry)) ⌝ }
+// The numbers of an operation that was made.
+fn answered(numbers: Numbers, answer: &mut [u8])
+    ensures { λ _. ⌜ now (answer .exit) ≡ putFront (numbersAnswer numbers) (now (answer .entry)) ⌝ }
 {
-    let Asked::Known(operation) = asked else {
-        return UNKNOWN_OPERATION;
-    };
-    if answer.len() < 16 {
-        return SHORT_ANSWER;
-    }
-    let numbers = in_bytes::operate(operation, bytes, events, place);
-    if numbers.refusal == 0 {
-        let answered = answering::answer_bytes(numbers.first, numbers.second, numbers.third);
-        encoding::put_front(answer, &answered);
-        return 0;
-    }
-    numbers.refusal as u32
+    let said = answering::answer_bytes(numbers.first, numbers.second, numbers.third);
+    encoding::put_front(answer, &said);
 }
 
 #[no_mangle]
@@ -50,14 +33,20 @@ pub extern "C" fn pit_board_operation(
 ) -> u32
     ensures { λ r. ⌜ called r (now (bytes .exit)) (now (events .exit)) (now (answer .exit)) ≡ boardOperation code target number place (now (bytes .entry)) (now (events .entry)) (now (answer .entry)) ⌝ }
 {
-    if bytes.len() < 105 {
-        return SHORT_RECORD;
+    let asked = board_operation::operation_of(code, target, number);
+    let room = answer.len();
+    let outcome = in_bytes::operate(asked, room, bytes, events, place);
+    match outcome {
+        Called::Short => SHORT_RECORD,
+        Called::Unreadable => UNREADABLE_RECORD,
+        Called::Unknown => UNKNOWN_OPERATION,
+        Called::NoRoom => SHORT_ANSWER,
+        Called::Refused(refusal) => refusal as u32,
+        Called::Made(numbers) => {
+            answered(numbers, answer);
+            0
+        }
     }
-    if board_encoding::board_readable(bytes) {
-        let asked = board_operation::operation_of(code, target, number);
-        return operation_on(bytes, events, answer, place, asked);
-    }
-    UNREADABLE_RECORD
 }
 
 #[no_mangle]

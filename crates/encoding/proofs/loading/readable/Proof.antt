@@ -4,7 +4,9 @@ use mathlib.Core.Path.{_≡_, refl, sym, subst}
 use mathlib.Core.Bool.{true}
 use native.Mathlib.Numerals.{add-one}
 use native.Mathlib.Omega.{arith}
+use lib.ListN.{length}
 use denote.Ref.{now}
+use borrow.Author.Tests.{lt-ltb, le-ltb}
 use borrow.Author.Needs.{needs}
 use Rattle.encoding.specs.Loaded.{readableTo}
 use Rattle.encoding.proofs.Readable.{one-more, one-above}
@@ -21,20 +23,28 @@ loop-holds : tie.Need-loop-holds Inv-loop μ-loop
 unfolding readableTo
 loop-holds c = (omega arith, refl)
 
-shared-slice-read-if1 : tie.Need-shared-slice-read-if1 Inv-loop μ-loop
-shared-slice-read-if1 c = omega (arith, c .before .before .before .pre)
-
 returns : tie.Need-returns Inv-loop μ-loop
-returns c = sym (one-above 29 (c .before .before .before .loop .i) _ (omega arith) (c .if1 .taken))
+returns c = simp (lt-ltb _ _ (c .if1 .taken))
 
-loop-again : tie.Need-loop-again Inv-loop μ-loop
-loop-again c =
-    (omega arith, rw add-one (one-more (c .before .before .before .loop .i) _ (c .if1 .left) (c .before .before .before .loop .inv .1)))
+-- no byte is too few
+long : (c : tie.At-loop Inv-loop μ-loop) → 29 ≤ length (now (c .before .before .args .bytes))
+long c = c .before .if1 .left
+
+shared-slice-read-if2 : tie.Need-shared-slice-read-if2 Inv-loop μ-loop
+shared-slice-read-if2 c = omega (arith, long (c .before .before))
 
 returns-2 : tie.Need-returns-2 Inv-loop μ-loop
 returns-2 c =
+    rw (le-ltb _ _ (long (c .before .before .before))) (sym (one-above 29 (c .before .before .before .loop .i) _ (omega arith) (c .if2 .taken)))
+
+loop-again : tie.Need-loop-again Inv-loop μ-loop
+loop-again c =
+    (omega arith, rw add-one (one-more (c .before .before .before .loop .i) _ (c .if2 .left) (c .before .before .before .loop .inv .1)))
+
+returns-3 : tie.Need-returns-3 Inv-loop μ-loop
+returns-3 c =
     let e : c .before .loop .i ≡ 29 = omega arith in
-    sym (subst (λ (n : ℕ). readableTo n (now (c .before .before .args .bytes)) ≡ true) e (c .before .loop .inv .1))
+    rw (le-ltb _ _ (long (c .before))) (sym (subst (λ (n : ℕ). readableTo n (now (c .before .before .before .args .bytes)) ≡ true) e (c .before .loop .inv .1)))
 
 pub readable-spec : {M : Type 1} → statement M
 readable-spec =
@@ -42,11 +52,12 @@ readable-spec =
     (tie.spec
     Inv-loop
     μ-loop
+    returns
     loop-holds
     (λ c. omega arith)
-    shared-slice-read-if1
-    returns
+    shared-slice-read-if2
+    returns-2
     (λ c. search needs)
     (λ c. omega arith)
     loop-again
-    returns-2)
+    returns-3)

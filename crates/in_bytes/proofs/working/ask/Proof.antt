@@ -6,8 +6,8 @@ use Rattle.refusal.specs.Reply.{accepted}
 use Rattle.channel.specs.Queries as channel
 use Rattle.board.specs.Outcome.{outputState, countValue, retriggers}
 use Rattle.board_operation.specs.Made.{numbersOf}
-use Rattle.board_encoding.specs.Parts.{boardIn}
-use Rattle.board_encoding.proofs.Standing.{kept}
+use Rattle.in_bytes.specs.Parts.{boardIn}
+use Rattle.in_bytes.proofs.Standing.{kept}
 use Rattle.in_bytes.specs.Part.{cleared, asked}
 use Rattle.in_bytes.specs.Written.{told, written}
 use borrow.Author.Needs.{needs}

@@ -1,7 +1,7 @@
 -- `in_bytes::working::on_channel` meets its contract. Assumes nothing.
 use mathlib.Core.Path.{ap, _∙_}
 use denote.Ref.{now}
-use Rattle.board_encoding.specs.Parts.{boardIn}
+use Rattle.in_bytes.specs.Parts.{boardIn}
 use Rattle.turn.specs.Turn.{workOn, workedOn}
 use Rattle.in_bytes.specs.Written.{told, written}
 use borrow.Author.Needs.{needs}

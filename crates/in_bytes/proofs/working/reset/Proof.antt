@@ -5,7 +5,7 @@ use denote.Ref.{now}
 use Rattle.channel.specs.Fresh as channel
 use Rattle.board.specs.Board.{owing}
 use Rattle.board.specs.Making.{restored}
-use Rattle.board_encoding.specs.Parts.{boardIn, stored}
+use Rattle.in_bytes.specs.Parts.{boardIn, stored}
 use Rattle.in_bytes.specs.Written.{told}
 use borrow.Author.Needs.{needs}
 use Rattle.in_bytes.proofs.working.reset.Statement.{statement}

@@ -3,8 +3,8 @@ use mathlib.Core.Path.{sym, ap, subst, _∙_}
 use native.Mathlib.Omega.{arith}
 use denote.Ref.{now}
 use Rattle.turn.specs.Turn.{turned, OnBoard}
-use Rattle.board_encoding.specs.Parts.{boardIn}
-use Rattle.board_encoding.proofs.Standing.{kept}
+use Rattle.in_bytes.specs.Parts.{boardIn}
+use Rattle.in_bytes.proofs.Standing.{kept}
 use Rattle.in_bytes.specs.Written.{told, written}
 use borrow.Author.Needs.{needs}
 use Rattle.in_bytes.proofs.working.turn_in.Statement.{statement}

@@ -4,7 +4,7 @@ use mathlib.Core.Path.{sym, ap, _∙_}
 use denote.Ref.{now}
 use Rattle.time.specs.declared.TimerTicks.{TimerTicks}
 use Rattle.owed.specs.Ticked.{Has}
-use Rattle.board_encoding.specs.Parts.{boardIn}
+use Rattle.in_bytes.specs.Parts.{boardIn}
 use Rattle.in_bytes.specs.Written.{told, written}
 use Rattle.in_bytes.proofs.Three.{three}
 use borrow.Author.Needs.{needs}
