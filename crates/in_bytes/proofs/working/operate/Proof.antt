@@ -9,14 +9,14 @@ use Rattle.in_bytes.proofs.working.operate.Statement.{statement}
 use Rattle.in_bytes.proofs.working.operate.Tie as tie
 
 returns : tie.Need-returns
-returns c = 
+returns c =
     let a = c .before .before .before .args in
     let bytes = now (a .bytes) in
     let events = now (a .events) in
     short-call (a .asked) (a .room) (a .place) bytes events (c .if1 .taken)
 
 returns-2 : tie.Need-returns-2
-returns-2 c = 
+returns-2 c =
     let a = c .before .before .before .before .before .before .before .before .args in
     let bytes = now (a .bytes) in
     let events = now (a .events) in
@@ -24,7 +24,7 @@ returns-2 c =
     unknown-call (a .asked) (a .room) (a .place) bytes events h (c .enum-told .given .1)
 
 returns-3 : tie.Need-returns-3
-returns-3 c = 
+returns-3 c =
     let a = c .before .before .before .before .before .before .before .before .before .before .args in
     let bytes = now (a .bytes) in
     let events = now (a .events) in
@@ -32,7 +32,7 @@ returns-3 c =
     no-room (a .asked) (a .room) (a .place) bytes events h _ (c .before .before .asked .given .1) (c .if3 .taken)
 
 returns-4 : tie.Need-returns-4
-returns-4 c = 
+returns-4 c =
     let a = c .before .before .before .before .before .before .before .before .before .before .before .before .before .before .before .before .before .before .before .args in
     let bytes = now (a .bytes) in
     let events = now (a .events) in
@@ -40,7 +40,7 @@ returns-4 c =
     made-call (a .asked) (a .room) (a .place) bytes events h _ (c .before .before .before .before .before .before .before .before .before .before .before .asked .given .1) (c .before .before .before .before .before .before .before .before .before .if3 .left) (c .before .before .before .before .before .before .make .result) _ _ (c .before .before .before .before .before .before .make .ensures) (c .if4 .taken)
 
 returns-5 : tie.Need-returns-5
-returns-5 c = 
+returns-5 c =
     let a = c .before .before .before .before .before .before .before .before .before .before .before .before .before .before .before .before .before .before .before .args in
     let bytes = now (a .bytes) in
     let events = now (a .events) in
@@ -48,7 +48,7 @@ returns-5 c =
     refused-call (a .asked) (a .room) (a .place) bytes events h _ (c .before .before .before .before .before .before .before .before .before .before .before .asked .given .1) (c .before .before .before .before .before .before .before .before .before .if3 .left) (c .before .before .before .before .before .before .make .result) _ _ (c .before .before .before .before .before .before .make .ensures) (λ p. omega (arith, c .before .before .before .before .before .before .before .before .before .before .before .before .before .before .before .before .before .before .slice-known .given p)) (c .if4 .left)
 
 returns-6 : tie.Need-returns-6
-returns-6 c = 
+returns-6 c =
     let a = c .before .before .before .before .before .before .args in
     let bytes = now (a .bytes) in
     let events = now (a .events) in
