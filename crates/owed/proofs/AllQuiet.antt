@@ -31,7 +31,7 @@ none-left stated owed run =
 
 module _ (c₀ c₁ c₂ : Channel) (owed stated : ℕ) where
   none : 0 ≡ quietRun c₀ c₁ c₂ owed stated → QuietRun c₀ c₁ c₂ owed stated 0
-  none is = record { run-is = is; in-owed = omega arith; few = omega arith; all-quiet = λ some. absurd (omega arith) }
+  none is = record { run-is = is; in-owed = omega arith; all-quiet = λ some. absurd (omega arith) }
 
   pub too-many : 65536 < stated → QuietRun c₀ c₁ c₂ owed stated 0
   too-many many = none (simp (lt-ltb _ _ many))
@@ -63,6 +63,5 @@ module _ (c₀ c₁ c₂ : Channel) (owed stated : ℕ) where
         record {
           run-is = simp (le-ltb _ _ few, le-ltb _ _ more) (found .number-is);
           in-owed = f .in-owed;
-          few = omega (arith, f .in-left, few);
           all-quiet = λ some. comes-to enough;
         }

@@ -44,7 +44,6 @@ quietRun c₀ c₁ c₂ owed stated =
 pub record QuietRun (c₀ c₁ c₂ : Channel) (owed stated run : ℕ) : Type 0 where
   pub run-is : run ≡ quietRun c₀ c₁ c₂ owed stated
   pub in-owed : run ≤ owed
-  pub few : run ≤ 65536
   pub all-quiet : 0 < run → (b : Board) (model : PitType) → Has b c₀ c₁ c₂ model owed → (events : List ℕ) (place : ℕ) → place ≤ length events
       → workOff b stated events place
       ≡ record {

@@ -139,7 +139,6 @@ fn work_on(
     place: usize,
 ) -> Ticked
     requires { ⌜ place ≤ length (now events) ⌝ }
-    requires { ⌜ stated ≤ 65536 ⌝ }
     ensures { λ r. ⌜ ((b : Board) → Has b c0 c1 c2 model (owed .0) → tickedOn b r (now (events .exit)) ≡ report (workOn stated (begun b (now (events .entry)) place))) ⌝ }
 {
     let mut d0 = c0;

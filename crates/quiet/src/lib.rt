@@ -15,6 +15,7 @@ ghost use mathlib.Core.Path.{_≡_};
 ghost use Rattle.numbers.specs.Digits.{weight};
 ghost use Rattle.numbers.specs.Times.{times};
 ghost use Rattle.count.specs.Count.{count};
+ghost use Rattle.count.specs.Step.{stepIn};
 ghost use Rattle.tick.specs.Taken.{takes};
 ghost use Rattle.tick.specs.Level.{restsAt};
 ghost use Rattle.tick.specs.Tick.{agedBy};
@@ -233,17 +234,34 @@ fn standing(c: Channel, cycles_in_state: u32) -> Moved
     }
 }
 
+// So many counts for each tick. They are made in equal parts: a product of the two numbers might not fit.
+fn steps_each(bcd: bool, element: u16, ticks: u32, each: u32) -> u16
+    requires { ⌜ 1 ≤ each ⌝ }
+    requires { ⌜ each ≤ 3 ⌝ }
+    ensures { λ r. ⌜ r ≡ times (ticks * each) (stepIn bcd) element ⌝ }
+{
+    let once = steps_in(bcd, element, ticks);
+    if each == 1 {
+        return once;
+    }
+    let twice = steps_in(bcd, once, ticks);
+    if each == 2 {
+        return twice;
+    }
+    steps_in(bcd, twice, ticks)
+}
+
+// A tick takes at least one count, so none are made only where there are no ticks.
 fn counted(c: Channel, ticks: u32) -> Moved
-    requires { ⌜ ticks ≤ 65536 ⌝ }
     ensures { λ r. ⌜ withSkipped c r ≡ agedBy ticks (times (ticks * takes c) count c) ⌝ }
 {
     let w = c.control;
     let k = c.counter;
     let l = c.latch;
-    let number = ticks * takes(c);
-    let element = steps_in(w.bcd_mode, k.counting_element, number);
-    let latch = followed_by(number, l, element);
-    let ticked = ticked_by(number, k.ticked);
+    let each = takes(c);
+    let element = steps_each(w.bcd_mode, k.counting_element, ticks, each);
+    let latch = followed_by(ticks, l, element);
+    let ticked = ticked_by(ticks, k.ticked);
     Moved {
         cycles_in_state: older(ticks, k.cycles_in_state),
         counting_element: element,
@@ -254,7 +272,6 @@ fn counted(c: Channel, ticks: u32) -> Moved
 
 // What that many ticks come to, where they are all alike.
 pub fn skipped(c: Channel, ticks: u32) -> Moved
-    requires { ⌜ ticks ≤ 65536 ⌝ }
     ensures { λ r. ⌜ withSkipped c r ≡ skip ticks c ⌝ }
 {
     let k = c.counter;

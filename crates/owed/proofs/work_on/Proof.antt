@@ -21,7 +21,7 @@ abbrev μ-loop : tie.MeasureT-loop
 loop-holds : tie.Need-loop-holds Inv-loop μ-loop
 loop-holds c =
     let a = c .before .args in
-    begins (a .c0) (a .c1) (a .c2) (a .model) (a .owed .0) (a .stated) (a .events .now) (a .place) (c .before .pre .0)
+    begins (a .c0) (a .c1) (a .c2) (a .model) (a .owed .0) (a .stated) (a .events .now) (a .place) (c .before .pre)
 
 same-length : tie.Need-same-length Inv-loop μ-loop
 same-length c = c .before .before .before .loop .inv .same-length
@@ -122,18 +122,6 @@ loop-again c =
     goes-one (l .inv) (going q) (q .before .if1 .left) (first z) (second z) (third z) enough _ _ (c .before .before .put-events .ensures)
 
 -- one that skips some
-run-fits : (q : Asked) → q .alike .result ≤ 65536
-run-fits q = omega (arith, few q .in-left, start q .pre .1)
-
-skipped-requires : tie.Need-skipped-requires Inv-loop μ-loop
-skipped-requires c κs = run-fits (c .before)
-
-skipped-requires-2 : tie.Need-skipped-requires-2 Inv-loop μ-loop
-skipped-requires-2 c κs = run-fits (c .before .before)
-
-skipped-requires-3 : tie.Need-skipped-requires-3 Inv-loop μ-loop
-skipped-requires-3 c κs = run-fits (c .before .before .before)
-
 abbrev Skipped : Type 0
 Skipped = tie.After-d24 Inv-loop μ-loop
 
@@ -200,9 +188,9 @@ work-on-spec =
     add-made
     loop-less
     loop-again
-    skipped-requires
-    skipped-requires-2
-    skipped-requires-3
+    (λ c κs. search needs)
+    (λ c κs. search needs)
+    (λ c κs. search needs)
     sub-left-2
     add-made-2
     loop-less-2
