@@ -1,4 +1,4 @@
-// A channel out of its 29 bytes, where they are readable.
+// A channel out of its 29 bytes.
 use crate::codes;
 use channel::Channel;
 use channel::ChannelMode;
@@ -55,8 +55,8 @@ const LIMITS: [u8; 29] = [
     1,
 ];
 
-// Fewer bytes than a record has are none.
-pub fn readable(bytes: &[u8]) -> bool
+// Whether the bytes are a record: 29 at least, the first 29 within their limits.
+pub fn is_record(bytes: &[u8]) -> bool
     ensures { λ r. ⌜ r ≡ isRecord (now (bytes .entry)) ⌝ }
 {
     if bytes.len() < 29 {
@@ -151,7 +151,7 @@ fn pins_at(bytes: &[u8]) -> Pins
 }
 
 // The channel that the bytes spell, readable or not. For fewer bytes than a record has it is the fresh one.
-pub fn channel_at(bytes: &[u8]) -> Channel
+pub fn record_in(bytes: &[u8]) -> Channel
     ensures { λ r. ⌜ r ≡ recordIn (now (bytes .entry)) ⌝ }
 {
     if bytes.len() < 29 {
@@ -181,8 +181,8 @@ pub fn load_channel(bytes: &[u8]) -> Loaded
     if bytes.len() < 29 {
         return Loaded::Short;
     }
-    if readable(bytes) {
-        return Loaded::Whole(channel_at(bytes));
+    if is_record(bytes) {
+        return Loaded::Whole(record_in(bytes));
     }
     Loaded::Unreadable
 }

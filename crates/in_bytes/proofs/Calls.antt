@@ -43,7 +43,7 @@ module _ (asks : Asked) (room place : ℕ) (bytes events : List ℕ) where
       says : r ≡ operate (boardIn bytes) op events place .numbers
       says = ap (λ (x : InBytes). x .numbers) m
 
-      made : call asks room place bytes events ≡ making (operate (boardIn bytes) op events place) bytes
+      made : call asks room place bytes events ≡ making (operate (boardIn bytes) op events place) bytes events
       made = rw (whole-call h) (rw (is, le-ltb _ _ enough) refl)
 
       pub made-call : r .refusal ≡ 0 → calling (Made r) after then ≡ call asks room place bytes events
@@ -56,6 +56,6 @@ module _ (asks : Asked) (room place : ℕ) (bytes events : List ℕ) where
       refused-call all set =
           let same = ap (λ (n : Numbers). n .refusal) says in
           let zero : eqb (operate (boardIn bytes) op events place .numbers .refusal) 0 ≡ false = ap (λ (n : Numbers). eqb (n .refusal) 0) (sym says) ∙ ne-eqb (r .refusal) 0 set in
-          let board = refused-leaves-all (boardIn bytes) op events place (λ e. set (same ∙ e)) .0 in
-          let left : after ≡ bytes = ap (λ (x : InBytes). x .bytes) m ∙ ap (λ b. stored b bytes) board ∙ kept bytes all h in
-          rw made (rw zero (λ i. calling (Refused (same i)) (left i) (ap (λ (x : InBytes). x .events) m i)))
+          let leaves = refused-leaves-all (boardIn bytes) op events place (λ e. set (same ∙ e)) in
+          let left : after ≡ bytes = ap (λ (x : InBytes). x .bytes) m ∙ ap (λ b. stored b bytes) (leaves .0) ∙ kept bytes all h in
+          rw made (rw zero (λ i. calling (Refused (same i)) (left i) ((ap (λ (x : InBytes). x .events) m ∙ leaves .1) i)))

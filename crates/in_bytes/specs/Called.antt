@@ -14,6 +14,15 @@ use Rattle.in_bytes.specs.declared.working.Called.{Called}
 use Rattle.in_bytes.specs.declared.working.Called.the-variants.{Short, Unreadable, Unknown, NoRoom, Refused, Made}
 use Rattle.in_bytes.specs.Parts.{stored}
 
+-- the number that is returned for each case: the table of docs/ENCODING.md
+abbrev pub status : Called → ℕ
+status Short = 101
+status Unreadable = 102
+status Unknown = 103
+status NoRoom = 104
+status (Refused number) = number
+status (Made numbers) = 0
+
 -- what a call comes to, and the board's and the events' bytes after it
 pub record Calling : Type 0 where
   pub called : Called
@@ -23,16 +32,16 @@ pub record Calling : Type 0 where
 abbrev pub calling : Called → List ℕ → List ℕ → Calling
 calling called bytes events = record { called = called; bytes = bytes; events = events }
 
--- the board written over the bytes, unless it refuses: "no lent byte changes"
-abbrev pub making : Outcome-in-numbers → List ℕ → Calling
-making o bytes =
+-- the board written over the bytes, unless it refuses: "with such a number no lent byte changes"
+abbrev pub making : Outcome-in-numbers → List ℕ → List ℕ → Calling
+making o bytes events =
     cond (eqb (o .numbers .refusal) 0) (calling (Made (o .numbers)) (stored (o .board) bytes) (o .events))
-    (calling (Refused (o .numbers .refusal)) bytes (o .events))
+    (calling (Refused (o .numbers .refusal)) bytes events)
 
 -- 103 before 104: "fewer bytes of answer than it has: .. 16 for a board"
 abbrev pub callOn : Board → Asked → ℕ → ℕ → List ℕ → List ℕ → Calling
 callOn b asked.Unknown room place bytes events = calling Unknown bytes events
-callOn b (asked.Known op) room place bytes events = cond (ltb room 16) (calling NoRoom bytes events) (making (operate b op events place) bytes)
+callOn b (asked.Known op) room place bytes events = cond (ltb room 16) (calling NoRoom bytes events) (making (operate b op events place) bytes events)
 
 -- 101 and 102 before all others
 abbrev pub callFound : Found → Board → Asked → ℕ → ℕ → List ℕ → List ℕ → Calling
@@ -40,5 +49,6 @@ callFound found.Short b asked room place bytes events = calling Short bytes even
 callFound found.Unreadable b asked room place bytes events = calling Unreadable bytes events
 callFound found.Whole b asked room place bytes events = callOn b asked room place bytes events
 
+-- a call on any bytes
 unfoldable pub call : Asked → ℕ → ℕ → List ℕ → List ℕ → Calling
 call asked room place bytes events = callFound (loadBoard bytes .found) (loadBoard bytes .board) asked room place bytes events

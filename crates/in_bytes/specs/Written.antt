@@ -6,6 +6,7 @@ use Rattle.in_bytes.specs.Parts.{stored}
 use Rattle.board_operation.specs.declared.making.Numbers.{Numbers}
 use Rattle.board_operation.specs.Made.{Outcome-in-numbers, numbersOf}
 
+-- an answer in numbers, the bytes of the board and those of the events
 pub record InBytes : Type 0 where
   pub numbers : Numbers
   pub bytes : List ℕ

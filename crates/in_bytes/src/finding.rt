@@ -1,8 +1,6 @@
 // An operation of a host with the part of the board found that it is about. What a trace has too is found by `turn`.
-use board::Answer;
 use board_operation::Operation;
 use refusal::Refusal;
-use time::SystemTicks;
 use turn::finding;
 use turn::finding::Turn;
 ghost use Rattle.in_bytes.specs.Part.{askPart, partOf, FindsPart};
@@ -27,7 +25,7 @@ fn ask_part(channel: u16, query: Query) -> Part
     ensures { λ r. ⌜ FindsPart (askPart channel query) r ⌝ }
 {
     if 2 < channel {
-        return Part::Turned(Turn::Say(Answer::Refused(Refusal::ChannelAbove2)));
+        return Part::Turned(finding::refuse(Refusal::ChannelAbove2));
     }
     Part::Ask(channel as u8, query)
 }
@@ -44,8 +42,8 @@ pub fn part_of(operation: Operation, owing: bool) -> Part
         }
         Operation::Counts(channel, number) => Part::Turned(finding::counts_turn(channel, number)),
         Operation::LoadCycle(channel) => Part::Turned(finding::load_cycle_turn(channel)),
-        Operation::CatchUp(ticks) => Part::Turned(Turn::Elapse(ticks, ticks, true)),
-        Operation::Run(ticks) => Part::Turned(Turn::Elapse(ticks, SystemTicks(0), false)),
+        Operation::CatchUp(ticks) => Part::Turned(finding::catch_up_turn(ticks)),
+        Operation::Run(ticks) => Part::Turned(finding::run_turn(ticks)),
         Operation::Reset => Part::Turned(finding::reset_turn(owing)),
         Operation::GetOutputState(channel) => ask_part(channel, Query::OutputState),
         Operation::GetChannelCount(channel) => ask_part(channel, Query::ChannelCount),

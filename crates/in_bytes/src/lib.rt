@@ -10,7 +10,7 @@ use channel::Channel;
 use channel::PitType;
 use time::SystemTicks;
 use time::TimerTicks;
-pub use working::operate;
+pub use working::call;
 ghost use mathlib.Core.Bool.{_&&_};
 ghost use mathlib.Core.List.{[], _∷_};
 ghost use mathlib.Core.Path.{_≡_};
@@ -45,9 +45,9 @@ fn board_readable(bytes: &[u8]) -> bool
     requires { ⌜ 105 ≤ length (now bytes) ⌝ }
     ensures { λ r. ⌜ r ≡ boardReadable (now (bytes .entry)) ⌝ }
 {
-    let first = encoding::loading::readable(&bytes[0..29]);
-    let second = encoding::loading::readable(&bytes[29..58]);
-    let third = encoding::loading::readable(&bytes[58..87]);
+    let first = encoding::loading::is_record(&bytes[0..29]);
+    let second = encoding::loading::is_record(&bytes[29..58]);
+    let third = encoding::loading::is_record(&bytes[58..87]);
     let own = own_readable(bytes);
     both(both(first, second), both(third, own))
 }
@@ -59,7 +59,7 @@ fn channel_in(bytes: &[u8], n: usize) -> Channel
 {
     let from = 29 * n;
     let to = from + 29;
-    encoding::loading::channel_at(&bytes[from..to])
+    encoding::loading::record_in(&bytes[from..to])
 }
 
 fn model_in(bytes: &[u8]) -> PitType

@@ -28,7 +28,7 @@ ghost use Prim.Native.Nat.{ℕ, _<_};
 ghost use Rattle.turn.specs.Turn.{turned, OnBoard};
 ghost use Rattle.board_operation.specs.Made.{operate};
 ghost use Rattle.in_bytes.specs.Parts.{boardIn, Holds};
-ghost use Rattle.in_bytes.specs.Part.{asked};
+ghost use Rattle.in_bytes.specs.Part.{queried};
 ghost use Rattle.in_bytes.specs.Written.{told, written, operated};
 ghost use Rattle.in_bytes.specs.Called.{calling, call};
 
@@ -132,7 +132,7 @@ fn turn_in(bytes: &mut [u8], turn: Turn, events: &mut [u8], place: usize) -> Num
 fn ask(bytes: &mut [u8], n: u8, query: Query) -> Numbers
     requires { ⌜ n < 3 ⌝ }
     requires { ⌜ Holds (now bytes) ⌝ }
-    ensures { λ r. ⌜ ((events : List ℕ) → told r (now (bytes .exit)) events ≡ written (asked (boardIn (now (bytes .entry))) n query events) (now (bytes .entry))) ⌝ }
+    ensures { λ r. ⌜ ((events : List ℕ) → told r (now (bytes .exit)) events ≡ written (queried (boardIn (now (bytes .entry))) n query events) (now (bytes .entry))) ⌝ }
 {
     let i = n as usize;
     let c = channel_in(bytes, i);
@@ -166,7 +166,7 @@ fn make(operation: Operation, bytes: &mut [u8], events: &mut [u8], place: usize)
 }
 
 // Room is the number of bytes lent for the answer. All 105 bytes are looked at first, whatever part of them the operation is about.
-pub fn operate(
+pub fn call(
     asked: Asked,
     room: usize,
     bytes: &mut [u8],

@@ -6,3 +6,4 @@ pub mod Working
 pub mod Tells
 pub mod WorkedOff
 pub mod AllQuiet
+pub mod Apart

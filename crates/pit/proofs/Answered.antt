@@ -2,7 +2,7 @@
 use Prim.Native.Nat.{ℕ}
 use mathlib.Core.Bool.{Bool, true, false, cond}
 use mathlib.Core.List.{List}
-use mathlib.Core.Path.{_≡_, refl}
+use mathlib.Core.Path.{_≡_, refl, sym, ap}
 use lib.Dec.{eqb, ltb}
 use lib.ListN.{length}
 use Rattle.encoding.specs.Front.{putFront}
@@ -13,40 +13,50 @@ use Rattle.board_encoding.specs.Loaded.{loadBoard}
 use Rattle.board_operation.specs.declared.asked.Asked.{Asked}
 use Rattle.board_operation.specs.declared.asked.Asked.the-variants as asked
 use Rattle.board_operation.specs.Asked.{operationOf}
-use Rattle.board_operation.specs.Made.{Outcome-in-numbers, operate}
+use Rattle.board_operation.specs.declared.Operation.{Operation}
+use Rattle.board_operation.specs.Made.{operate}
+use Rattle.board_operation.proofs.Leaves.{refused-leaves-all}
+use borrow.Author.Tests.{eqb-false}
 use Rattle.in_bytes.specs.declared.working.Called.{Called}
 use Rattle.in_bytes.specs.declared.working.Called.the-variants as door
-use Rattle.in_bytes.specs.Called.{Calling, making, callOn, callFound, call}
+use Rattle.in_bytes.specs.Called.{Calling, status, making, callOn, callFound, call}
 use Rattle.pit.specs.Board as board
 use Rattle.pit.specs.Board.{called, numbersAnswer, settled, calledOn, calledFound, boardOperation}
 
--- the numbers of docs/ENCODING.md for what the operation came to
+-- the answer's bytes after it: written where an operation is made
+abbrev pub answerAfter : Called → List ℕ → List ℕ
+answerAfter door.Short answer = answer
+answerAfter door.Unreadable answer = answer
+answerAfter door.Unknown answer = answer
+answerAfter door.NoRoom answer = answer
+answerAfter (door.Refused number) answer = answer
+answerAfter (door.Made numbers) answer = putFront (numbersAnswer numbers) answer
+
 abbrev pub answering : Called → List ℕ → List ℕ → List ℕ → board.Called
-answering door.Short bytes events answer = called 101 bytes events answer
-answering door.Unreadable bytes events answer = called 102 bytes events answer
-answering door.Unknown bytes events answer = called 103 bytes events answer
-answering door.NoRoom bytes events answer = called 104 bytes events answer
-answering (door.Refused number) bytes events answer = called number bytes events answer
-answering (door.Made numbers) bytes events answer = called 0 bytes events (putFront (numbersAnswer numbers) answer)
+answering k bytes events answer = called (status k) bytes events (answerAfter k answer)
 
 abbrev pub answeredBy : Calling → List ℕ → board.Called
 answeredBy k answer = answering (k .called) (k .bytes) (k .events) answer
 
 module _ (place : ℕ) (bytes events answer : List ℕ) where
-  by-refusal : (o : Outcome-in-numbers) (zero : Bool) → eqb (o .numbers .refusal) 0 ≡ zero → answeredBy (making o bytes) answer ≡ settled o bytes answer
-  by-refusal o true is = rw is refl
-  by-refusal o false is = rw is refl
+  -- a refused operation leaves the event bytes
+  by-refusal : (b : Board) (op : Operation) (zero : Bool) → eqb (operate b op events place .numbers .refusal) 0 ≡ zero
+      → answeredBy (making (operate b op events place) bytes events) answer ≡ settled (operate b op events place) bytes answer
+  by-refusal b op true is = rw is refl
+  by-refusal b op false is =
+      let o = operate b op events place in
+      rw is (ap (λ (l : List ℕ). called (o .numbers .refusal) bytes l answer) (sym (refused-leaves-all b op events place (eqb-false (o .numbers .refusal) 0 is) .1)))
 
-  by-room : (b : Board) (o : Outcome-in-numbers) (short : Bool)
-      → answeredBy (cond short (record { called = door.NoRoom; bytes = bytes; events = events }) (making o bytes)) answer
-      ≡ cond short (called 104 bytes events answer) (settled o bytes answer)
-  by-room b o true = refl
-  by-room b o false = by-refusal o (eqb (o .numbers .refusal) 0) refl
+  by-room : (b : Board) (op : Operation) (short : Bool)
+      → answeredBy (cond short (record { called = door.NoRoom; bytes = bytes; events = events }) (making (operate b op events place) bytes events)) answer
+      ≡ cond short (called 104 bytes events answer) (settled (operate b op events place) bytes answer)
+  by-room b op true = refl
+  by-room b op false = by-refusal b op (eqb (operate b op events place .numbers .refusal) 0) refl
 
   by-asked : (b : Board) (asks : Asked) → answeredBy (callOn b asks (length answer) place bytes events) answer ≡ calledOn b asks place bytes events answer
   unfolding calledOn
   by-asked b asked.Unknown = refl
-  by-asked b (asked.Known op) = by-room b (operate b op events place) (ltb (length answer) 16)
+  by-asked b (asked.Known op) = by-room b op (ltb (length answer) 16)
 
   by-found : (f : Found) (b : Board) (asks : Asked)
       → answeredBy (callFound f b asks (length answer) place bytes events) answer ≡ calledFound f b asks place bytes events answer

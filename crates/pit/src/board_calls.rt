@@ -35,7 +35,7 @@ pub extern "C" fn pit_board_operation(
 {
     let asked = board_operation::operation_of(code, target, number);
     let room = answer.len();
-    let outcome = in_bytes::operate(asked, room, bytes, events, place);
+    let outcome = in_bytes::call(asked, room, bytes, events, place);
     match outcome {
         Called::Short => SHORT_RECORD,
         Called::Unreadable => UNREADABLE_RECORD,

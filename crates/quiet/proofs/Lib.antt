@@ -6,3 +6,4 @@ pub mod Ages
 pub mod Quietly
 pub mod QuietCount
 pub mod ManyTicks
+pub mod Apart

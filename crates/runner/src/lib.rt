@@ -217,7 +217,7 @@ fn tell(
                 let c1 = b.channels[1];
                 let c2 = b.channels[2];
                 let run = owed::quiet_run(c0, c1, c2, owing, stated);
-                // Where the ticks of the call are all quiet they move four numbers of each channel and nothing else. A call that makes the whole record would cost more
+                // Where the ticks of the call are all quiet they move four fields of each channel and nothing else. A call that makes the whole record would cost more
                 // than the ticks.
                 if 0 < run {
                     let s0 = quiet::skipped(c0, run);

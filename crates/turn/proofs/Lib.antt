@@ -3,3 +3,4 @@ pub mod Room
 pub mod Turn
 pub mod Recorded
 pub mod Steps
+pub mod Apart

@@ -59,6 +59,7 @@ gateTurn owing channel level = channelTurn channel (unlessOwing owing (OnChannel
 abbrev pub countsTurn : ℕ → ℕ → Turn
 countsTurn channel number = channelTurn channel (cond (ltb 65536 number) (refuse TooManyCounts) (OnChannel channel (work.Counts number)))
 
+-- a load cycle has refusal 2 alone
 abbrev pub loadCycleTurn : ℕ → Turn
 loadCycleTurn channel = channelTurn channel (OnChannel channel work.LoadCycle)
 
@@ -66,9 +67,11 @@ loadCycleTurn channel = channelTurn channel (OnChannel channel work.LoadCycle)
 abbrev pub catchUpTurn : SystemTicks → Turn
 catchUpTurn given = Elapse given given true
 
+-- .. and leaves the defer flag
 abbrev pub runTurn : SystemTicks → Turn
 runTurn given = Elapse given (record { 0 = 0 }) false
 
+-- a reset has refusal 16 alone
 abbrev pub resetTurn : Bool → Turn
 resetTurn owing = unlessOwing owing Reset
 

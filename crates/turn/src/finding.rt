@@ -11,7 +11,7 @@ use trace::operation::Operation;
 ghost use mathlib.Core.Path.{_≡_};
 ghost use Rattle.control.specs.Control.{commandOf};
 ghost use Rattle.ports.specs.Port.{portOf};
-ghost use Rattle.turn.specs.Finding.{commandTurn, writeTurn, readTurn, gateTurn, countsTurn, loadCycleTurn, resetTurn, turnOf, Finds};
+ghost use Rattle.turn.specs.Finding.{commandTurn, writeTurn, readTurn, gateTurn, countsTurn, loadCycleTurn, catchUpTurn, runTurn, resetTurn, turnOf, Finds};
 
 // What is done to one channel.
 pub enum Work {
@@ -38,7 +38,7 @@ pub enum Turn {
     Say(Answer),
 }
 
-fn refuse(refusal: Refusal) -> Turn
+pub fn refuse(refusal: Refusal) -> Turn
     ensures { λ r. ⌜ r ≡ Turn.Say (Answer.Refused refusal) ⌝ }
 {
     Turn::Say(Answer::Refused(refusal))
@@ -128,6 +128,18 @@ pub fn load_cycle_turn(channel: u16) -> Turn
     Turn::OnChannel(channel as u8, Work::LoadCycle)
 }
 
+pub fn catch_up_turn(ticks: SystemTicks) -> Turn
+    ensures { λ r. ⌜ Finds (catchUpTurn ticks) r ⌝ }
+{
+    Turn::Elapse(ticks, ticks, true)
+}
+
+pub fn run_turn(ticks: SystemTicks) -> Turn
+    ensures { λ r. ⌜ Finds (runTurn ticks) r ⌝ }
+{
+    Turn::Elapse(ticks, SystemTicks(0), false)
+}
+
 // Refusal 16.
 pub fn reset_turn(owing: bool) -> Turn
     ensures { λ r. ⌜ Finds (resetTurn owing) r ⌝ }
@@ -148,8 +160,8 @@ pub fn turn_of(operation: Operation, owing: bool) -> Turn
         Operation::SetChannelGate(channel, level) => gate_turn(channel as u16, level, owing),
         Operation::Counts(channel, number) => counts_turn(channel as u16, number),
         Operation::LoadCycle(channel) => load_cycle_turn(channel as u16),
-        Operation::CatchUp(ticks) => Turn::Elapse(ticks, ticks, true),
-        Operation::Run(ticks) => Turn::Elapse(ticks, SystemTicks(0), false),
+        Operation::CatchUp(ticks) => catch_up_turn(ticks),
+        Operation::Run(ticks) => run_turn(ticks),
         Operation::Reset => reset_turn(owing),
         Operation::WorkOff(stated) => Turn::WorkOff(stated),
     }

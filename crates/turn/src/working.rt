@@ -1,5 +1,5 @@
-// The work on one channel: a record in, a record out, and the event of its output. A board by value and a board in bytes differ only in where the record is taken
-// from and put back. The runner, for its speed, has the same work as arms of its loop.
+// The work on one channel: a record in, a record out, and the event of its output. Where the record is taken from and put back is the caller's. A board in bytes goes through here;
+// the runner, for its speed, has the same work as arms of its loop.
 use crate::finding::Work;
 use board::Answer;
 use channel::Channel;

@@ -13,9 +13,9 @@ unfolding boardReadable
 returns c =
     let start = c .before .before .before .before .before .before .before .before .before .before .before in
     let bytes = now (start .args .bytes) in
-    let first = c .before .before .before .before .before .before .before .before .readable .ensures ∙ is-record bytes (start .pre) 0 (omega arith) in
-    let second = c .before .before .before .before .before .before .readable2 .ensures ∙ is-record bytes (start .pre) 29 (omega arith) in
-    let third = c .before .before .before .before .readable3 .ensures ∙ is-record bytes (start .pre) 58 (omega arith) in
+    let first = c .before .before .before .before .before .before .before .before .is-record .ensures ∙ is-record bytes (start .pre) 0 (omega arith) in
+    let second = c .before .before .before .before .before .before .is-record2 .ensures ∙ is-record bytes (start .pre) 29 (omega arith) in
+    let third = c .before .before .before .before .is-record3 .ensures ∙ is-record bytes (start .pre) 58 (omega arith) in
     simp (c .both3 .ensures, c .before .both2 .ensures, c .before .before .both .ensures, c .before .before .before .own-readable .ensures, third, second, first)
 
 pub board-readable-spec : {M : Type 1} → statement M

@@ -12,7 +12,7 @@ returns : tie.Need-returns
 returns c =
     let a = c .before .before .before .args in
     let size : 29 * a .n + 29 - 29 * a .n ≡ 29 = omega arith in
-    c .channel-at .ensures ∙ rw size (record-in (now (a .bytes)) (c .before .before .before .pre .1 .long) (29 * a .n) (omega arith) ∙ found (now (a .bytes)) (a .n) (c .before .before .before .pre .0))
+    c .record-in .ensures ∙ rw size (record-in (now (a .bytes)) (c .before .before .before .pre .1 .long) (29 * a .n) (omega arith) ∙ found (now (a .bytes)) (a .n) (c .before .before .before .pre .0))
 
 pub channel-in-spec : {M : Type 1} → statement M
 channel-in-spec =

@@ -14,14 +14,14 @@ returns-2 : tie.Need-returns-2
 unfolding loadChannel
 returns-2 c =
     let long = le-ltb _ _ (c .before .before .before .if1 .left) in
-    let is = rw long at (sym (c .before .before .readable .ensures) ∙ c .before .if2 .taken) in
-    simp (c .channel-at .ensures, is, long)
+    let is = rw long at (sym (c .before .before .is-record .ensures) ∙ c .before .if2 .taken) in
+    simp (c .record-in .ensures, is, long)
 
 returns-3 : tie.Need-returns-3
 unfolding loadChannel
 returns-3 c =
     let long = le-ltb _ _ (c .before .before .if1 .left) in
-    let is = rw long at (sym (c .before .readable .ensures) ∙ c .if2 .left) in
+    let is = rw long at (sym (c .before .is-record .ensures) ∙ c .if2 .left) in
     simp (is, long)
 
 pub load-channel-spec : {M : Type 1} → statement M

@@ -7,7 +7,7 @@ use Rattle.in_bytes.proofs.finding.ask_part.Statement.{statement}
 use Rattle.in_bytes.proofs.finding.ask_part.Tie as tie
 
 returns : tie.Need-returns
-returns c = rw (lt-ltb _ _ (c .if1 .taken)) (refl, tt)
+returns c = rw (c .refuse .ensures, lt-ltb _ _ (c .before .if1 .taken)) (refl, tt)
 
 returns-2 : tie.Need-returns-2
 returns-2 c = rw (le-ltb _ _ (c .if1 .left)) (refl, omega arith)
@@ -16,6 +16,7 @@ pub ask-part-spec : {M : Type 1} → statement M
 ask-part-spec =
     tie.close
     (tie.spec
+    (λ c κs. search needs)
     returns
     (λ c. search needs)
     returns-2)

@@ -28,11 +28,11 @@ returns-5 c = rw (c .before .before .operation5 .given .1) (ap Turned (c .load-c
 
 returns-6 : tie.Need-returns-6
 unfolding partOf
-returns-6 c = rw (c .before .operation6 .given .1) (refl, tt)
+returns-6 c = rw (c .before .before .operation6 .given .1) (ap Turned (c .catch-up-turn .ensures .0), c .catch-up-turn .ensures .1)
 
 returns-7 : tie.Need-returns-7
 unfolding partOf
-returns-7 c = rw (c .before .operation7 .given .1) (refl, tt)
+returns-7 c = rw (c .before .before .operation7 .given .1) (ap Turned (c .run-turn .ensures .0), c .run-turn .ensures .1)
 
 returns-8 : tie.Need-returns-8
 unfolding partOf
@@ -77,7 +77,9 @@ part-of-spec =
     (λ c. search needs)
     (λ c κs. search needs)
     (λ c. search needs)
+    (λ c κs. search needs)
     (λ c. search needs)
+    (λ c κs. search needs)
     (λ c. search needs)
     (λ c κs. search needs)
     (λ c. search needs)

@@ -12,7 +12,7 @@ use Rattle.pit.proofs.board_calls.pit_board_operation.Tie as tie
 returns : tie.Need-returns
 returns c =
     let a = c .before .before .before .before .before .before .before .before .before .before .before .before .before .args in
-    let made = c .before .before .before .before .before .before .operate in
+    let made = c .before .before .before .before .before .before .call in
     ap (λ k. answering k (made .last .1 .1 .0) (made .last .1 .1 .1 .0) (now (a .answer))) (sym (c .enum-told .given .1))
     ∙ ap (λ k. answeredBy k (now (a .answer))) (made .ensures ∙ ap (λ q. call q (length (now (a .answer))) (a .place) (now (a .bytes)) (now (a .events))) (c .before .before .before .before .before .before .before .before .before .operation-of .ensures))
     ∙ operation-answered (a .place) (now (a .bytes)) (now (a .events)) (now (a .answer)) (a .code) (a .target) (a .number)
@@ -20,7 +20,7 @@ returns c =
 returns-2 : tie.Need-returns-2
 returns-2 c =
     let a = c .before .before .before .before .before .before .before .before .before .before .before .before .before .args in
-    let made = c .before .before .before .before .before .before .operate in
+    let made = c .before .before .before .before .before .before .call in
     ap (λ k. answering k (made .last .1 .1 .0) (made .last .1 .1 .1 .0) (now (a .answer))) (sym (c .enum-told2 .given .1))
     ∙ ap (λ k. answeredBy k (now (a .answer))) (made .ensures ∙ ap (λ q. call q (length (now (a .answer))) (a .place) (now (a .bytes)) (now (a .events))) (c .before .before .before .before .before .before .before .before .before .operation-of .ensures))
     ∙ operation-answered (a .place) (now (a .bytes)) (now (a .events)) (now (a .answer)) (a .code) (a .target) (a .number)
@@ -28,7 +28,7 @@ returns-2 c =
 returns-3 : tie.Need-returns-3
 returns-3 c =
     let a = c .before .before .before .before .before .before .before .before .before .before .before .before .before .args in
-    let made = c .before .before .before .before .before .before .operate in
+    let made = c .before .before .before .before .before .before .call in
     ap (λ k. answering k (made .last .1 .1 .0) (made .last .1 .1 .1 .0) (now (a .answer))) (sym (c .enum-told3 .given .1))
     ∙ ap (λ k. answeredBy k (now (a .answer))) (made .ensures ∙ ap (λ q. call q (length (now (a .answer))) (a .place) (now (a .bytes)) (now (a .events))) (c .before .before .before .before .before .before .before .before .before .operation-of .ensures))
     ∙ operation-answered (a .place) (now (a .bytes)) (now (a .events)) (now (a .answer)) (a .code) (a .target) (a .number)
@@ -36,7 +36,7 @@ returns-3 c =
 returns-4 : tie.Need-returns-4
 returns-4 c =
     let a = c .before .before .before .before .before .before .before .before .before .before .before .before .before .args in
-    let made = c .before .before .before .before .before .before .operate in
+    let made = c .before .before .before .before .before .before .call in
     ap (λ k. answering k (made .last .1 .1 .0) (made .last .1 .1 .1 .0) (now (a .answer))) (sym (c .enum-told4 .given .1))
     ∙ ap (λ k. answeredBy k (now (a .answer))) (made .ensures ∙ ap (λ q. call q (length (now (a .answer))) (a .place) (now (a .bytes)) (now (a .events))) (c .before .before .before .before .before .before .before .before .before .operation-of .ensures))
     ∙ operation-answered (a .place) (now (a .bytes)) (now (a .events)) (now (a .answer)) (a .code) (a .target) (a .number)
@@ -44,7 +44,7 @@ returns-4 c =
 returns-5 : tie.Need-returns-5
 returns-5 c =
     let a = c .before .before .before .before .before .before .before .before .before .before .before .before .before .before .args in
-    let made = c .before .before .before .before .before .before .before .operate in
+    let made = c .before .before .before .before .before .before .before .call in
     ap (λ k. answering k (made .last .1 .1 .0) (made .last .1 .1 .1 .0) (now (a .answer))) (sym (c .before .outcome .given .1))
     ∙ ap (λ k. answeredBy k (now (a .answer))) (made .ensures ∙ ap (λ q. call q (length (now (a .answer))) (a .place) (now (a .bytes)) (now (a .events))) (c .before .before .before .before .before .before .before .before .before .before .operation-of .ensures))
     ∙ operation-answered (a .place) (now (a .bytes)) (now (a .events)) (now (a .answer)) (a .code) (a .target) (a .number)
@@ -52,7 +52,7 @@ returns-5 c =
 returns-6 : tie.Need-returns-6
 returns-6 c =
     let a = c .before .before .before .before .before .before .before .before .before .before .before .before .before .before .before .before .before .before .args in
-    let made = c .before .before .before .before .before .before .before .before .before .before .before .operate in
+    let made = c .before .before .before .before .before .before .before .before .before .before .before .call in
     ap (λ l. called 0 (made .last .1 .1 .0) (made .last .1 .1 .1 .0) l) (c .before .before .answered .ensures)
     ∙ ap (λ k. answering k (made .last .1 .1 .0) (made .last .1 .1 .1 .0) (now (a .answer))) (sym (c .before .before .before .before .before .outcome2 .given .1))
     ∙ ap (λ k. answeredBy k (now (a .answer))) (made .ensures ∙ ap (λ q. call q (length (now (a .answer))) (a .place) (now (a .bytes)) (now (a .events))) (c .before .before .before .before .before .before .before .before .before .before .before .before .before .before .operation-of .ensures))

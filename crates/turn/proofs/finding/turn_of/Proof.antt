@@ -27,11 +27,11 @@ returns-5 c = rw (c .before .before .operation5 .given .1) (c .load-cycle-turn .
 
 returns-6 : tie.Need-returns-6
 unfolding turnOf
-returns-6 c = rw (c .before .operation6 .given .1) (refl, tt)
+returns-6 c = rw (c .before .before .operation6 .given .1) (c .catch-up-turn .ensures)
 
 returns-7 : tie.Need-returns-7
 unfolding turnOf
-returns-7 c = rw (c .before .operation7 .given .1) (refl, tt)
+returns-7 c = rw (c .before .before .operation7 .given .1) (c .run-turn .ensures)
 
 returns-8 : tie.Need-returns-8
 unfolding turnOf
@@ -61,7 +61,9 @@ turn-of-spec =
     (λ c. search needs)
     (λ c κs. search needs)
     (λ c. search needs)
+    (λ c κs. search needs)
     (λ c. search needs)
+    (λ c κs. search needs)
     (λ c. search needs)
     (λ c κs. search needs)
     (λ c. search needs)

@@ -1,4 +1,4 @@
--- `encoding::loading::readable` meets its contract: the bytes before i are within their limits. Assumes nothing.
+-- `encoding::loading::is_record` meets its contract: the bytes before i are within their limits. Assumes nothing.
 use Prim.Native.Nat.{ℕ, _≤_, _-_}
 use mathlib.Core.Path.{_≡_, refl, sym, subst}
 use mathlib.Core.Bool.{true}
@@ -10,8 +10,8 @@ use borrow.Author.Tests.{lt-ltb, le-ltb}
 use borrow.Author.Needs.{needs}
 use Rattle.encoding.specs.Loaded.{readableTo}
 use Rattle.encoding.proofs.Readable.{one-more, one-above}
-use Rattle.encoding.proofs.loading.readable.Statement.{statement}
-use Rattle.encoding.proofs.loading.readable.Tie as tie
+use Rattle.encoding.proofs.loading.is_record.Statement.{statement}
+use Rattle.encoding.proofs.loading.is_record.Tie as tie
 
 abbrev Inv-loop : tie.InvT-loop
 Inv-loop bytes limits i₀ i = (i ≤ 29) × (readableTo i bytes ≡ true)
@@ -46,8 +46,8 @@ returns-3 c =
     let e : c .before .loop .i ≡ 29 = omega arith in
     rw (le-ltb _ _ (long (c .before))) (sym (subst (λ (n : ℕ). readableTo n (now (c .before .before .before .args .bytes)) ≡ true) e (c .before .loop .inv .1)))
 
-pub readable-spec : {M : Type 1} → statement M
-readable-spec =
+pub is-record-spec : {M : Type 1} → statement M
+is-record-spec =
     tie.close
     (tie.spec
     Inv-loop

@@ -1,12 +1,12 @@
--- `in_bytes::working::operate` meets its contract. Assumes nothing.
+-- `in_bytes::working::call` meets its contract. Assumes nothing.
 use mathlib.Core.Path.{sym, _∙_}
 use native.Mathlib.Omega.{arith}
 use denote.Ref.{now}
 use Rattle.in_bytes.specs.Parts.{Holds}
 use Rattle.in_bytes.proofs.Calls.{short-call, unreadable-call, unknown-call, no-room, made-call, refused-call}
 use borrow.Author.Needs.{needs}
-use Rattle.in_bytes.proofs.working.operate.Statement.{statement}
-use Rattle.in_bytes.proofs.working.operate.Tie as tie
+use Rattle.in_bytes.proofs.working.call.Statement.{statement}
+use Rattle.in_bytes.proofs.working.call.Tie as tie
 
 returns : tie.Need-returns
 returns c =
@@ -54,8 +54,8 @@ returns-6 c =
     let events = now (a .events) in
     unreadable-call (a .asked) (a .room) (a .place) bytes events (c .before .before .before .if1 .left) (sym (c .before .board-readable .ensures) ∙ c .if2 .left)
 
-pub operate-spec : {M : Type 1} → statement M
-operate-spec =
+pub call-spec : {M : Type 1} → statement M
+call-spec =
     tie.close
     (tie.spec
     returns
