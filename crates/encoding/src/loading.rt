@@ -11,7 +11,7 @@ use channel::Reloading;
 ghost use mathlib.Core.Path.{_≡_};
 ghost use Prim.Native.Nat.{_≤_};
 ghost use lib.ListN.{length};
-ghost use Rattle.encoding.specs.Loaded.{isRecord, recordIn, controlAt, reloadingAt, loadAt, counterAt, latchAt, pinsAt, loadChannel};
+ghost use Rattle.encoding.specs.Loaded.{isRecord, recordIn, controlAt, reloadingAt, loadAt, counterAt, latchAt, pinsAt, channelAt, loadChannel};
 
 // What loading a channel finds.
 pub enum Loaded {
@@ -150,13 +150,10 @@ fn pins_at(bytes: &[u8]) -> Pins
     }
 }
 
-// The channel that the bytes spell, readable or not. For fewer bytes than a record has it is the fresh one.
-pub fn record_in(bytes: &[u8]) -> Channel
-    ensures { λ r. ⌜ r ≡ recordIn (now (bytes .entry)) ⌝ }
+fn channel_at(bytes: &[u8]) -> Channel
+    requires { ⌜ 29 ≤ length (now bytes) ⌝ }
+    ensures { λ r. ⌜ r ≡ channelAt (now (bytes .entry)) ⌝ }
 {
-    if bytes.len() < 29 {
-        return Channel::fresh();
-    }
     let control = control_at(bytes);
     let reloading = reloading_at(bytes);
     let load = load_at(bytes);
@@ -175,6 +172,16 @@ pub fn record_in(bytes: &[u8]) -> Channel
     }
 }
 
+// The channel that the bytes spell, readable or not. For fewer bytes than a record has it is the fresh one.
+pub fn record_in(bytes: &[u8]) -> Channel
+    ensures { λ r. ⌜ r ≡ recordIn (now (bytes .entry)) ⌝ }
+{
+    if bytes.len() < 29 {
+        return Channel::fresh();
+    }
+    channel_at(bytes)
+}
+
 pub fn load_channel(bytes: &[u8]) -> Loaded
     ensures { λ r. ⌜ r ≡ loadChannel (now (bytes .entry)) ⌝ }
 {
@@ -182,7 +189,7 @@ pub fn load_channel(bytes: &[u8]) -> Loaded
         return Loaded::Short;
     }
     if is_record(bytes) {
-        return Loaded::Whole(record_in(bytes));
+        return Loaded::Whole(channel_at(bytes));
     }
     Loaded::Unreadable
 }

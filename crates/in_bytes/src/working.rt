@@ -166,13 +166,7 @@ fn make(operation: Operation, bytes: &mut [u8], events: &mut [u8], place: usize)
 }
 
 // Room is the number of bytes lent for the answer. All 105 bytes are looked at first, whatever part of them the operation is about.
-pub fn call(
-    asked: Asked,
-    room: usize,
-    bytes: &mut [u8],
-    events: &mut [u8],
-    place: usize,
-) -> Called
+pub fn call(asked: Asked, room: usize, bytes: &mut [u8], events: &mut [u8], place: usize) -> Called
     ensures { λ r. ⌜ calling r (now (bytes .exit)) (now (events .exit)) ≡ call asked room place (now (bytes .entry)) (now (events .entry)) ⌝ }
 {
     if bytes.len() < 105 {
