@@ -1,4 +1,4 @@
-// What loading a board finds.
+// Loading a board, as the definitions speak of it.
 use board::Board;
 
 // What loading a board finds.

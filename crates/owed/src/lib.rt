@@ -169,6 +169,7 @@ fn work_on(
             left -= 1;
             made += 1;
         } else {
+            // The fields are written here and not by a function that hands back the record, which costs more than the ticks: docs/DECISIONS.md 68.
             let s0 = quiet::skipped(d0, run);
             let s1 = quiet::skipped(d1, run);
             let s2 = quiet::skipped(d2, run);
