@@ -3,10 +3,10 @@ use mathlib.Core.Bool.{Bool, true, false, cond}
 use Rattle.channel.specs.declared.Channel.{Channel}
 use Rattle.channel.specs.declared.ChannelMode.{ChannelMode}
 use Rattle.channel.specs.declared.ChannelState.{ChannelState}
-use Rattle.channel.specs.declared.ChannelState.the-variants.{WaitingForReload, WaitingForGate, DeferLoadCycle, WaitingForLoadCycle, WaitingForLoadTrigger, Counting}
+use Rattle.channel.specs.declared.ChannelState.the-variants.{WaitingForGate, WaitingForLoadCycle}
 use Rattle.channel.specs.Record.{withPins}
 use Rattle.channel.specs.Modes.{byMode}
-use Rattle.channel.specs.Shared.{changeChannelState, changeOutputState}
+use Rattle.channel.specs.Shared.{waitsForReload, changeChannelState, changeOutputState}
 
 -- "Rising, modes 1, 2, 3, 5: `WaitingForLoadCycle`."
 abbrev pub loadsOnRise : ChannelMode → Bool
@@ -39,14 +39,6 @@ edge true false c = falling c
 edge true true c = c
 
 -- "Gate edges act unless the state is `WaitingForReload`."
-abbrev pub waitsForReload : ChannelState → Bool
-waitsForReload WaitingForReload = true
-waitsForReload WaitingForGate = false
-waitsForReload DeferLoadCycle = false
-waitsForReload WaitingForLoadCycle = false
-waitsForReload WaitingForLoadTrigger = false
-waitsForReload (Counting f) = false
-
 abbrev pub afterEdge : Channel → Bool → Channel
 afterEdge c level = cond (waitsForReload (c .counter .«channel_state»)) c (edge (c .pins .gate) level c)
 

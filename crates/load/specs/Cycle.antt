@@ -1,6 +1,5 @@
--- Document 01, "Loads and gates": the added load cycle, "until the whole tick exists".
+-- Document 01, "Loads and gates": the added load cycle.
 use Prim.Native.Nat.{ℕ}
-use mathlib.Core.Bool.{Bool, true, false}
 use lib.Bits.{bitAnd}
 use Rattle.channel.specs.declared.Channel.{Channel}
 use Rattle.channel.specs.declared.Counter.{Counter}
@@ -26,15 +25,8 @@ cycleIn (Counting f) c = c
 unfoldable pub loadCycle : Channel → Channel
 loadCycle c = cycleIn (c .counter .«channel_state») c
 
--- What follows says nothing new and need not be believed: the same by parts, as the code has it (`cycle-by-parts`). Whether the cycle of a state loads, and what it leaves of the counter's group, where the load would move value
-abbrev pub loads : ChannelState → Bool
-loads WaitingForReload = false
-loads WaitingForGate = false
-loads DeferLoadCycle = false
-loads WaitingForLoadCycle = true
-loads WaitingForLoadTrigger = false
-loads (Counting f) = false
-
+-- What follows says nothing new and need not be believed: the same by parts, as the code has it (`cycle-by-parts`). What the cycle leaves of the counter's group, where the load
+-- would move value
 abbrev pub newlyIn : ChannelState → ℕ → Counter → Counter
 newlyIn s element k =
     record { «channel_state» = s; «cycles_in_state» = 0; «counting_element» = element; ticked = k .ticked }

@@ -4,13 +4,12 @@ use Prim.Native.Nat.{ℕ, _-_, _*_, _/_, _%_}
 use mathlib.Core.Bool.{Bool, true, false, cond, _&&_}
 use lib.Dec.{eqb}
 use Rattle.numbers.specs.Digits.{weight}
+use Rattle.numbers.specs.Radix.{radixCounts}
 use Rattle.numbers.specs.Times.{times}
 use Rattle.channel.specs.declared.Channel.{Channel}
 use Rattle.channel.specs.declared.ChannelMode.{ChannelMode}
-use Rattle.channel.specs.declared.ChannelState.{ChannelState}
-use Rattle.channel.specs.declared.ChannelState.the-variants.{WaitingForReload, WaitingForGate, DeferLoadCycle, WaitingForLoadCycle, WaitingForLoadTrigger, Counting}
 use Rattle.channel.specs.Modes.{byMode}
-use Rattle.channel.specs.Shared.{isCounting}
+use Rattle.channel.specs.Shared.{isCounting, waitsForCycle}
 use Rattle.count.specs.Count.{count}
 use Rattle.tick.specs.declared.due.Kind.{Kind}
 use Rattle.tick.specs.declared.due.Kind.the-variants.{Idle, Deferred, Load, Reload, Count}
@@ -19,13 +18,9 @@ use Rattle.tick.specs.Taken.{takes}
 use Rattle.tick.specs.Level.{restsAt}
 use Rattle.tick.specs.Tick.{agedBy, neverLoaded}
 
--- the counts of a whole round, from 0 to 0
-abbrev pub round : Bool → ℕ
-round bcd = cond bcd 10000 65536
-
 -- the counts to zero: the element, in BCD its weight, "and for 0 the whole round"
 abbrev pub countsToZero : Bool → ℕ → ℕ
-countsToZero bcd e = cond (eqb e 0) (round bcd) (cond bcd (weight e) e)
+countsToZero bcd e = cond (eqb e 0) (radixCounts bcd) (cond bcd (weight e) e)
 
 unfoldable pub toZero : Channel → ℕ
 toZero c = countsToZero (c .control .«bcd_mode») (c .counter .«counting_element»)
@@ -33,14 +28,6 @@ toZero c = countsToZero (c .control .«bcd_mode») (c .counter .«counting_eleme
 -- "no end": as many as one call may ask for
 abbrev pub noEnd : ℕ
 noEnd = 65536
-
-abbrev pub waitsForCycle : ChannelState → Bool
-waitsForCycle WaitingForReload = false
-waitsForCycle WaitingForGate = false
-waitsForCycle DeferLoadCycle = false
-waitsForCycle WaitingForLoadCycle = true
-waitsForCycle WaitingForLoadTrigger = false
-waitsForCycle (Counting f) = false
 
 -- "load that meets a count of 1", and has met it before: there is nothing left to change
 abbrev pub metAlready : Channel → Bool

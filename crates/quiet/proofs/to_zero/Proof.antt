@@ -7,7 +7,7 @@ use Rattle.quiet.proofs.to_zero.Tie as tie
 
 returns : tie.Need-returns
 unfolding toZero
-returns c = simp (c .round .ensures, eq-eqb _ _ (c .before .if1 .taken))
+returns c = simp (c .radix-counts .ensures, eq-eqb _ _ (c .before .if1 .taken))
 
 returns-2 : tie.Need-returns-2
 unfolding toZero

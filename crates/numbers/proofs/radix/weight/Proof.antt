@@ -1,9 +1,9 @@
--- `quiet::weight` meets its contract. Assumes nothing.
+-- `numbers::weight` meets its contract. Assumes nothing.
 use mathlib.Core.Path.{refl}
 use borrow.Author.Needs.{needs}
 use Rattle.numbers.specs.Digits.{weight}
-use Rattle.quiet.proofs.weight.Statement.{statement}
-use Rattle.quiet.proofs.weight.Tie as tie
+use Rattle.numbers.proofs.radix.weight.Statement.{statement}
+use Rattle.numbers.proofs.radix.weight.Tie as tie
 
 returns : tie.Need-returns
 unfolding weight
