@@ -1,9 +1,9 @@
--- `trace_prefixes::show_all` is safe and ends. Assumes nothing.
+-- `trace_limits::prefixes::show_all` is safe and ends. Assumes nothing.
 use Prim.Native.Nat.{_+_, _-_, _≤_}
 use lib.ListN.{length}
 use borrow.Author.Needs.{needs}
-use Rattle.trace_prefixes.proofs.show_all.Statement.{statement}
-use Rattle.trace_prefixes.proofs.show_all.Tie as tie
+use Rattle.trace_limits.proofs.prefixes.show_all.Statement.{statement}
+use Rattle.trace_limits.proofs.prefixes.show_all.Tie as tie
 
 abbrev Inv-loop : tie.InvT-loop
 Inv-loop trace n₀ n = n ≤ length trace + 1

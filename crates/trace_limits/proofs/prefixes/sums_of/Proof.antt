@@ -1,9 +1,9 @@
--- `trace_prefixes::sums_of` is safe and ends. Assumes nothing.
+-- `trace_limits::prefixes::sums_of` is safe and ends. Assumes nothing.
 use Prim.Native.Nat.{_-_, _≤_, _<_}
 use lib.ListN.{length}
 use borrow.Author.Needs.{needs}
-use Rattle.trace_prefixes.proofs.sums_of.Statement.{statement}
-use Rattle.trace_prefixes.proofs.sums_of.Tie as tie
+use Rattle.trace_limits.proofs.prefixes.sums_of.Statement.{statement}
+use Rattle.trace_limits.proofs.prefixes.sums_of.Tie as tie
 
 abbrev Inv-loop : tie.InvT-loop
 Inv-loop text bytes₀ sums₀ i₀ bytes sums i = (i ≤ length text) × (bytes < 4294967296) × (sums < 4294967296)

@@ -1,6 +1,5 @@
-// Every prefix of the trace on standard input, and the trace itself: how many bytes its replay prints, their sum, and the sum of their sums. A prefix of n bytes prints
+// Every prefix of a trace, and the trace itself: how many bytes its replay prints, their sum, and the sum of their sums. A prefix of n bytes prints
 // `trace refused 9 at n`.
-use libc::STDIN_FILENO;
 use libc::STDOUT_FILENO;
 
 struct Sums {
@@ -41,16 +40,10 @@ fn show(prefix: &[u8]) {
     io::write_all(STDOUT_FILENO, b"\n");
 }
 
-fn show_all(trace: &[u8]) {
+pub(crate) fn show_all(trace: &[u8]) {
     let mut n = 0;
     while n <= trace.len() {
         show(&trace[0..n]);
         n += 1;
     }
-}
-
-fn main() {
-    let mut input = io::buffer();
-    let length = io::read_full(STDIN_FILENO, &mut input);
-    show_all(&input[..length]);
 }
