@@ -2,7 +2,6 @@
 use mathlib.Core.Bool.{Bool, true, false, cond}
 use Rattle.channel.specs.declared.Channel.{Channel}
 use Rattle.channel.specs.declared.ChannelMode.{ChannelMode}
-use Rattle.channel.specs.declared.ChannelState.{ChannelState}
 use Rattle.channel.specs.declared.ChannelState.the-variants.{WaitingForGate, WaitingForLoadCycle}
 use Rattle.channel.specs.Record.{withPins}
 use Rattle.channel.specs.Modes.{byMode}
@@ -48,19 +47,3 @@ withGate c level = withPins c (record { gate = level; output = c .pins .output }
 -- "The gate level is always stored."
 unfoldable pub setGate : Channel → Bool → Channel
 setGate c level = withGate (afterEdge c level) level
-
--- What follows says nothing new and need not be believed: the same by parts, as the code has it (`gate-by-parts`). Whether the edge from a level to a level enters a state, in a mode, and which; and whether it makes the output high
-abbrev pub enters : ChannelMode → Bool → Bool → Bool
-enters m false false = false
-enters m false true = loadsOnRise m
-enters m true false = stopsOnFall m
-enters m true true = false
-
-abbrev pub enteredAt : Bool → ChannelState
-enteredAt true = WaitingForLoadCycle
-enteredAt false = WaitingForGate
-
-abbrev pub raises : ChannelMode → Bool → Bool → Bool
-raises m false level = false
-raises m true false = highOnFall m
-raises m true true = false

@@ -4,7 +4,8 @@ use channel::ChannelMode;
 use channel::ChannelState;
 use channel::Counter;
 ghost use mathlib.Core.Path.{_≡_};
-ghost use Rattle.gate.specs.Gate.{loadsOnRise, stopsOnFall, highOnFall, afterEdge, setGate, enters, enteredAt, raises};
+ghost use Rattle.gate.specs.Gate.{loadsOnRise, stopsOnFall, highOnFall, afterEdge, setGate};
+ghost use Rattle.gate.specs.Inner.{enters, enteredAt, raises};
 
 fn loads_on_rise(mode: ChannelMode) -> bool
     ensures { λ r. ⌜ r ≡ loadsOnRise mode ⌝ }

@@ -6,7 +6,8 @@ use Rattle.channel.specs.declared.ChannelState.{ChannelState}
 use Rattle.channel.specs.declared.ChannelState.the-variants.{WaitingForReload, WaitingForGate, DeferLoadCycle, WaitingForLoadCycle, WaitingForLoadTrigger, Counting}
 use Rattle.channel.specs.Record.{withCounter, withLatch, withDirty}
 use Rattle.channel.specs.Shared.{waitsForCycle, followed, changeChannelState, putElement}
-use Rattle.load.specs.Cycle.{loadValue, cycleIn, loadCycle, counterAfter}
+use Rattle.load.specs.Cycle.{loadValue, cycleIn, loadCycle}
+use Rattle.load.specs.Inner.{counterAfter}
 
 abbrev cycled : ChannelState → Channel → Channel
 cycled s c =

@@ -7,7 +7,8 @@ use channel::ReloadFlag;
 ghost use mathlib.Core.Bool.{true, cond};
 ghost use mathlib.Core.Path.{_≡_};
 ghost use Rattle.channel.specs.Shared.{followed};
-ghost use Rattle.load.specs.Cycle.{loadValue, loadCycle, newlyIn, counterAfter};
+ghost use Rattle.load.specs.Cycle.{loadValue, loadCycle};
+ghost use Rattle.load.specs.Inner.{newlyIn, counterAfter};
 
 // The value that a load moves to the counting element.
 pub fn load_value(c: Channel) -> u16

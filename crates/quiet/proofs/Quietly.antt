@@ -19,7 +19,7 @@ use Rattle.tick.specs.declared.due.Kind.the-variants.{Idle, Load}
 use Rattle.tick.specs.Due.{dueIn, due}
 use Rattle.tick.specs.Level.{restLevel, restsAt}
 use Rattle.tick.specs.Tick.{agedBy, idle, neverLoaded, sentBack, loadAt, tickBy, tick}
-use Rattle.quiet.specs.Quiet.{metAlready, quietIf, quietBy, quiet, skipBy, skip}
+use Rattle.quiet.specs.Inner.{metAlready, quietIf, quietBy, quiet, skipBy, skip}
 use Rattle.quiet.proofs.Ages.{aged-more}
 use Rattle.tick.proofs.Loaded.{both-first, both-second}
 

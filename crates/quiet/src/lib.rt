@@ -20,8 +20,7 @@ ghost use Rattle.count.specs.Step.{stepIn};
 ghost use Rattle.tick.specs.Taken.{takes};
 ghost use Rattle.tick.specs.Level.{restsAt};
 ghost use Rattle.tick.specs.Tick.{agedBy};
-ghost use Rattle.quiet.specs.Quiet.{toZero, metAlready, untilHigh, untilLow, untilHalf, untilStrobe, quietFor, quietCounting, quietIf, quiet, skip};
-ghost use Rattle.quiet.specs.Skipped.{standing, withSkipped};
+ghost use Rattle.quiet.specs.Inner.{toZero, metAlready, untilHigh, untilLow, untilHalf, untilStrobe, quietFor, quietCounting, quietIf, quiet, skip, standing, withSkipped};
 
 fn wide(number: u16) -> u32
     ensures { λ r. ⌜ r ≡ number ⌝ }

@@ -6,7 +6,7 @@ use native.Mathlib.Omega.{arith}
 use lib.ListN.{length, set}
 use Rattle.refusal.specs.Reply.{Reply, accepted}
 use Rattle.channel.specs.declared.Channel.{Channel}
-use Rattle.quiet.specs.Quiet.{skip}
+use Rattle.quiet.specs.Inner.{skip}
 use Rattle.board.specs.declared.Board.{Board}
 use Rattle.board.specs.Board.{channelAt, owing}
 use Rattle.board.specs.Answer.{replyOf}

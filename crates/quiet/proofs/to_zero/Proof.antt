@@ -1,7 +1,7 @@
 -- `quiet::to_zero` meets its contract. Assumes nothing.
 use borrow.Author.Needs.{needs}
 use borrow.Author.Tests.{eq-eqb, ne-eqb}
-use Rattle.quiet.specs.Quiet.{toZero}
+use Rattle.quiet.specs.Inner.{toZero}
 use Rattle.quiet.proofs.to_zero.Statement.{statement}
 use Rattle.quiet.proofs.to_zero.Tie as tie
 

@@ -1,7 +1,7 @@
--- How many next ticks are all alike, and what that many come to: docs/TICK.md, "Many ticks at once". What follows says nothing new of the tick and
--- need not be believed: `skip-is-ticks` (proofs/ManyTicks.antt) finds that many ticks to be the same.
+-- Not for readers: how many next ticks are all alike, and what that many do (docs/TICK.md, "Many ticks at once"). It says nothing new of the tick: `skip-is-ticks`
+-- (proofs/ManyTicks.antt) finds that many ticks to be the same.
 use Prim.Native.Nat.{ℕ, _-_, _*_, _/_, _%_}
-use mathlib.Core.Bool.{Bool, true, false, cond, _&&_}
+use mathlib.Core.Bool.{Bool, cond, _&&_}
 use lib.Dec.{eqb}
 use Rattle.numbers.specs.Digits.{weight}
 use Rattle.numbers.specs.Radix.{radixCounts}
@@ -17,6 +17,8 @@ use Rattle.tick.specs.Due.{due}
 use Rattle.tick.specs.Taken.{takes}
 use Rattle.tick.specs.Level.{restsAt}
 use Rattle.tick.specs.Tick.{agedBy, neverLoaded}
+use Rattle.channel.specs.Record.{withCounter, withLatch}
+use Rattle.quiet.specs.declared.Moved.{Moved}
 
 -- the counts to zero: the element, in BCD its weight, "and for 0 the whole round"
 abbrev pub countsToZero : Bool → ℕ → ℕ
@@ -87,3 +89,30 @@ skipBy Count ticks c = agedBy ticks (times (ticks * takes c) count c)
 
 unfoldable pub skip : ℕ → Channel → Channel
 skip ticks c = skipBy (due c) ticks c
+
+-- the record with the four fields that such ticks can move
+abbrev pub withSkipped : Channel → Moved → Channel
+withSkipped c s =
+    withLatch
+    (withCounter c
+    (record {
+      «channel_state» = c .counter .«channel_state»;
+      «cycles_in_state» = s .«cycles_in_state»;
+      «counting_element» = s .«counting_element»;
+      ticked = s .ticked;
+    }))
+    (record {
+      «output_latch» = s .«output_latch»;
+      «count_is_latched» = c .latch .«count_is_latched»;
+      «read_state» = c .latch .«read_state»;
+    })
+
+-- the fields as they stand, but for the cycles in state
+abbrev pub standing : Channel → ℕ → Moved
+standing c cycles =
+    record {
+      «cycles_in_state» = cycles;
+      «counting_element» = c .counter .«counting_element»;
+      ticked = c .counter .ticked;
+      «output_latch» = c .latch .«output_latch»;
+    }
