@@ -26,7 +26,7 @@ returns c =
     let a = c .before .before .before .before .before .before .before .before .args in
     let same = first-six (a .index) (replyOf (a .answer)) (a .t6) (a .left .0) in
     let said = c .before .before .put-line .ensures ∙ ap (λ (text : List ℕ). put text (now (a .out)) (a .place)) (line-back _ _ (line .ensures .0) ∙ same) in
-    rw (c .before .before .before .before .before .enum-told .given .1) (said, rw⁻¹ same (line .ensures .1))
+    rw (c .before .before .before .before .before .enum-told .given .1) record { told = said; short = rw⁻¹ same (line .ensures .1) }
 
 answer-length : (reply : Reply Value) (events : List ℕ) (left : ℕ) → length (answerBytes reply events left) ≤ 16
 unfolding answerBytes
@@ -37,7 +37,7 @@ returns-2 c =
     let bytes = c .before .before .before .before .before .answer-bytes in
     let a = c .before .before .before .before .before .before .before .before .before .args in
     let said = c .before .before .put .ensures ∙ ap (λ (text : List ℕ). put text (now (a .out)) (a .place)) (bytes .ensures) in
-    rw (c .before .before .before .before .before .before .enum-told2 .given .1) (said, answer-length (replyOf (a .answer)) (a .t6) (a .left .0))
+    rw (c .before .before .before .before .before .before .enum-told2 .given .1) record { told = said; short = answer-length (replyOf (a .answer)) (a .t6) (a .left .0) }
 
 pub say-spec : {M : Type 1} → statement M
 say-spec =

@@ -1,7 +1,8 @@
 -- `trace::judging::judge` meets its contract. Assumes nothing.
 use mathlib.Core.Path.{sym, ap, _∙_}
 use borrow.Author.Needs.{needs}
-use Rattle.trace.specs.Answer.{headJudged, faultJudged}
+use Rattle.trace.specs.Answer.{headJudged}
+use Rattle.trace.specs.Inner.{faultJudged}
 use Rattle.trace.proofs.Turns.{in-turn}
 use Rattle.trace.proofs.judging.judge.Statement.{statement}
 use Rattle.trace.proofs.judging.judge.Tie as tie
