@@ -11,10 +11,10 @@ fn own_bytes(b: Board) -> [u8; 18]
     let remainder = b.remainder;
     let warp = b.warp;
     let owed = b.owed;
-    let d = encoding::four_bytes(b.divisor);
-    let r = encoding::four_bytes(remainder.0);
-    let w = encoding::four_bytes(warp.0);
-    let o = encoding::four_bytes(owed.0);
+    let d = numbers::four_bytes(b.divisor);
+    let r = numbers::four_bytes(remainder.0);
+    let w = numbers::four_bytes(warp.0);
+    let o = numbers::four_bytes(owed.0);
     [
         model.number(),
         d[0],

@@ -121,7 +121,7 @@ fn put_channels(bytes: &mut [u8], c0: Channel, c1: Channel, c2: Channel, owed: T
     let first = encoding::channel_bytes(c0);
     let second = encoding::channel_bytes(c1);
     let third = encoding::channel_bytes(c2);
-    let last = encoding::four_bytes(owed.0);
+    let last = numbers::four_bytes(owed.0);
     let mut place = text::put(bytes, 0, &first);
     place = text::put(bytes, place, &second);
     text::put(bytes, place, &third);
@@ -131,9 +131,9 @@ fn put_channels(bytes: &mut [u8], c0: Channel, c1: Channel, c2: Channel, owed: T
 fn time_bytes(remainder: SystemTicks, warp: SystemTicks, defer: bool, owed: TimerTicks) -> [u8; 13]
     ensures { λ r. ⌜ r ≡ timeBytes (remainder .0) (warp .0) defer (owed .0) ⌝ }
 {
-    let r = encoding::four_bytes(remainder.0);
-    let w = encoding::four_bytes(warp.0);
-    let o = encoding::four_bytes(owed.0);
+    let r = numbers::four_bytes(remainder.0);
+    let w = numbers::four_bytes(warp.0);
+    let o = numbers::four_bytes(owed.0);
     [
         r[0],
         r[1],

@@ -1,8 +1,10 @@
 // Words on numbers that several crates share: specs/ has the definitions, proofs/ their laws. The functions are a flag's byte, and numbers
-// put together from a low and a high half, or found in bytes (field.rt).
+// put together from a low and a high half, as their bytes or found in bytes (field.rt).
 mod field;
 
+pub use field::four_bytes;
 pub use field::number_at;
+pub use field::two_bytes;
 ghost use mathlib.Core.Path.{_≡_};
 ghost use Prim.Native.Nat.{_+_, _*_};
 ghost use Rattle.numbers.specs.Flags.{flagNumber};

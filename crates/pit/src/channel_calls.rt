@@ -46,9 +46,9 @@ fn answer_bytes(made: Made) -> [u8; 7]
 {
     let c = made.channel;
     let level = numbers::flag_byte(c.get_output_state());
-    let first = encoding::two_bytes(made.first);
-    let second = encoding::two_bytes(made.second);
-    let third = encoding::two_bytes(made.third);
+    let first = numbers::two_bytes(made.first);
+    let second = numbers::two_bytes(made.second);
+    let third = numbers::two_bytes(made.third);
     [
         level,
         first[0],

@@ -60,8 +60,8 @@ pub(crate) fn answer_bytes(answer: Answer, events: [u8; 6], left: SystemTicks) -
     ensures { λ r. ⌜ r ≡ answerBytes (replyOf answer) events (left .0) ⌝ }
 {
     let said = said_in(answer);
-    let value = encoding::four_bytes(said.value);
-    let rest = encoding::four_bytes(left.0);
+    let value = numbers::four_bytes(said.value);
+    let rest = numbers::four_bytes(left.0);
     [
         said.refusal,
         said.written,
