@@ -6,10 +6,9 @@ use Rattle.refusal.specs.Reply.{accepted}
 use Rattle.channel.specs.Queries as channel
 use Rattle.board.specs.Outcome.{outputState, countValue, retriggers}
 use Rattle.board_operation.specs.Made.{numbersOf}
-use Rattle.in_bytes.specs.Parts.{boardIn}
+use Rattle.board_encoding.specs.Loaded.{boardIn}
 use Rattle.in_bytes.proofs.Standing.{kept}
-use Rattle.in_bytes.specs.Part.{cleared, queried}
-use Rattle.in_bytes.specs.Written.{told, written}
+use Rattle.in_bytes.specs.Inner.{cleared, queried, told, written}
 use borrow.Author.Needs.{needs}
 use Rattle.in_bytes.proofs.working.ask.Statement.{statement}
 use Rattle.in_bytes.proofs.working.ask.Tie as tie

@@ -1,5 +1,5 @@
--- The part of the board that an operation of a host is about. It says nothing new of an operation and need not be believed: proofs/Part.antt shows that nothing else is meant
--- than the step of the board.
+-- Not for readers: how the work on a board in lent bytes is divided. The part of the board that an operation is about says nothing new of the operation: proofs/Part.antt
+-- shows that nothing else is meant than the step of the board. What is left in bytes is what `making` (Called.antt) says.
 use Prim.Native.Nat.{ℕ, _<_}
 use mathlib.Core.Bool.{Bool, cond}
 use mathlib.Core.List.{List}
@@ -19,10 +19,13 @@ use Rattle.turn.specs.Finding.{refuse, writeTurn, readTurn, gateTurn, countsTur
 use Rattle.turn.specs.Turn.{turned, OnBoard}
 use Rattle.board_operation.specs.declared.Operation.{Operation}
 use Rattle.board_operation.specs.declared.Operation.the-variants.{WritePort, ReadPort, SetChannelGate, Counts, LoadCycle, CatchUp, Run, Reset, GetOutputState, GetChannelCount, DoesChannelRetrigger, IsDirty, GetTimerAccum, WorkOff}
+use Rattle.board_operation.specs.declared.answering.Numbers.{Numbers}
+use Rattle.board_operation.specs.Made.{Outcome-in-numbers, numbersOf}
 use Rattle.in_bytes.specs.declared.finding.Query.{Query}
 use Rattle.in_bytes.specs.declared.finding.Query.the-variants as query
 use Rattle.in_bytes.specs.declared.finding.Part.{Part}
 use Rattle.in_bytes.specs.declared.finding.Part.the-variants.{Turned, Ask, TimerAccum}
+use Rattle.in_bytes.specs.Called.{stored}
 
 -- 2 "channel above 2"
 abbrev pub askPart : ℕ → Query → Part
@@ -74,3 +77,21 @@ OnPart TimerAccum = Unit
 -- what is promised of the part that the code finds
 abbrev pub FindsPart : Part → Part → Type 0
 FindsPart p found = (found ≡ p) × OnPart found
+
+-- an answer in numbers, the bytes of the board and those of the events
+pub record InBytes : Type 0 where
+  pub numbers : Numbers
+  pub bytes : List ℕ
+  pub events : List ℕ
+
+-- what the code answers, with the lent bytes at its end
+abbrev pub told : Numbers → List ℕ → List ℕ → InBytes
+told numbers bytes events = record { numbers = numbers; bytes = bytes; events = events }
+
+-- what an outcome leaves in bytes
+abbrev pub written : Outcome → List ℕ → InBytes
+written o bytes = told (numbersOf (o .reply)) (stored (o .board) bytes) (o .events)
+
+-- .. and an operation whose answer is in numbers already
+abbrev pub operated : Outcome-in-numbers → List ℕ → InBytes
+operated o bytes = told (o .numbers) (stored (o .board) bytes) (o .events)

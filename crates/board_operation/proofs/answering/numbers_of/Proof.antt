@@ -1,7 +1,7 @@
--- `board_operation::making::numbers_of` meets its contract. Assumes nothing.
+-- `board_operation::answering::numbers_of` meets its contract. Assumes nothing.
 use borrow.Author.Needs.{needs}
-use Rattle.board_operation.proofs.making.numbers_of.Statement.{statement}
-use Rattle.board_operation.proofs.making.numbers_of.Tie as tie
+use Rattle.board_operation.proofs.answering.numbers_of.Statement.{statement}
+use Rattle.board_operation.proofs.answering.numbers_of.Tie as tie
 
 returns : tie.Need-returns
 returns c = simp (c .number .ensures, c .before .before .answer .given .1)

@@ -1,7 +1,7 @@
--- `in_bytes::time_bytes` meets its contract. Assumes nothing.
+-- `board_encoding::storing::time_bytes` meets its contract. Assumes nothing.
 use borrow.Author.Needs.{needs}
-use Rattle.in_bytes.proofs.time_bytes.Statement.{statement}
-use Rattle.in_bytes.proofs.time_bytes.Tie as tie
+use Rattle.board_encoding.proofs.storing.time_bytes.Statement.{statement}
+use Rattle.board_encoding.proofs.storing.time_bytes.Tie as tie
 
 returns : tie.Need-returns
 returns c = simp (c .flag-byte .ensures, c .before .four-bytes3 .ensures, c .before .before .four-bytes2 .ensures, c .before .before .before .four-bytes .ensures)
