@@ -39,6 +39,17 @@ part-length bytes enough n on = simp (length-take, length-drop) (omega arith)
 abbrev pub between : List ℕ → ℕ → ℕ → List ℕ
 between bytes from to = take (to - from) (drop from bytes)
 
+-- the bytes before a place, in parts
+module _ (bytes : List ℕ) where
+  pub before-third : take (recordPlace 2) bytes ≡ recordPart bytes 0 ++ recordPart bytes 1
+  before-third = take-add channelSize channelSize bytes
+
+  before-own : take modelPlace bytes ≡ recordPart bytes 0 ++ recordPart bytes 1 ++ recordPart bytes 2
+  before-own = take-add (recordPlace 2) channelSize bytes ∙ ap (λ l. l ++ recordPart bytes 2) before-third
+
+  pub before-time : take remainderPlace bytes ≡ recordPart bytes 0 ++ recordPart bytes 1 ++ recordPart bytes 2 ++ between bytes modelPlace remainderPlace
+  before-time = take-add modelPlace (remainderPlace - modelPlace) bytes ∙ ap (λ l. l ++ between bytes modelPlace remainderPlace) before-own
+
 module _ (bytes : List ℕ) (all : (p : ℕ) → getD bytes p 0 < 256) (h : HoldsBoard bytes) where
   four-at : (p : ℕ) → fourBytes (numberAt bytes p) ≡ getD bytes p 0 ∷ getD bytes (p + 1) 0 ∷ getD bytes (p + 2) 0 ∷ getD bytes (p + 2 + 1) 0 ∷ []
   four-at p = four bytes p (all p) (all (p + 1)) (all (p + 2)) (all (p + 2 + 1))
@@ -90,15 +101,11 @@ module _ (bytes : List ℕ) (all : (p : ℕ) → getD bytes p 0 < 256) (h : Hold
       (λ i. settings-spelled i ++ four-at remainderPlace i ++ four-at warpPlace i ++ defer-byte i ∷ fourBytes owed)
       ∙ ap (λ (l : List ℕ). l ++ fourBytes owed) (spelled-part bytes modelPlace (owedPlace - modelPlace) (let long = h .long in omega arith))
 
-  in-parts : take boardSize bytes
-      ≡ recordPart bytes 0 ++ recordPart bytes 1 ++ recordPart bytes 2 ++ between bytes modelPlace remainderPlace ++ between bytes remainderPlace boardSize
-  in-parts =
-      rw (take-add remainderPlace (boardSize - remainderPlace) bytes, take-add modelPlace (remainderPlace - modelPlace) bytes, take-add (recordPlace 2) channelSize bytes, take-add channelSize channelSize bytes)
-      refl
-
   pub only-bytes-before : boardBytes (boardIn bytes) ≡ take boardSize bytes
   unfolding boardBytes boardIn
-  only-bytes-before = (λ i. first-form i ++ second-form i ++ third-form i ++ settings-form i ++ time-form i) ∙ sym in-parts
+  only-bytes-before =
+      (λ i. first-form i ++ second-form i ++ third-form i ++ settings-form i ++ time-form i)
+      ∙ sym (take-add remainderPlace (boardSize - remainderPlace) bytes ∙ ap (λ l. l ++ between bytes remainderPlace boardSize) (before-time bytes))
 
   pub only-bytes : length bytes ≡ boardSize → boardBytes (boardIn bytes) ≡ bytes
   only-bytes len = only-bytes-before ∙ take-all boardSize bytes (omega arith)

@@ -5,7 +5,7 @@ use mathlib.Core.List.{List, [], _∷_, _++_, append-assoc}
 use mathlib.Core.Path.{_≡_, refl, sym, ap, _∙_}
 use native.Mathlib.Omega.{arith}
 use lib.ListN.{length, getD, take, drop, length-append, take-append-drop}
-use lib.Seq.{take-add, drop-drop, take-append-add, drop-append-add}
+use lib.Seq.{drop-drop, take-append-add, drop-append-add}
 use borrow.Author.Tests.{le-leb}
 use Rattle.numbers.specs.Little.{fourBytes}
 use Rattle.channel.specs.declared.Channel.{Channel}
@@ -21,7 +21,7 @@ use Rattle.board_encoding.specs.Places.{recordPlace, modelPlace, remainderPlace
 use Rattle.board_encoding.specs.Stored.{settingsBytes, timeBytes, boardBytes}
 use Rattle.board_encoding.specs.Loaded.{recordPart, boardIn, HoldsBoard}
 use Rattle.board_encoding.proofs.Length.{bytes-length}
-use Rattle.board_encoding.proofs.Only.{between, first-form, second-form, third-form, settings-form, time-form, owing-form, only-bytes-before}
+use Rattle.board_encoding.proofs.Only.{between, before-third, before-time, first-form, second-form, third-form, settings-form, time-form, owing-form, only-bytes-before}
 use Rattle.in_bytes.specs.Called.{stored}
 
 -- the channel at a place
@@ -44,21 +44,40 @@ module _ (bytes : List ℕ) (all : (p : ℕ) → getD bytes p 0 < 256) (h : Hold
   join : (a k : ℕ) → take k (drop a bytes) ++ drop (a + k) bytes ≡ drop a bytes
   join a k = rw (← drop-drop k a bytes) (take-append-drop k (drop a bytes))
 
-  own-behind : between bytes modelPlace remainderPlace ++ between bytes remainderPlace boardSize ++ drop boardSize bytes ≡ drop modelPlace bytes
-  own-behind = simp (append-assoc, join remainderPlace (boardSize - remainderPlace), join modelPlace (remainderPlace - modelPlace))
+  -- a part and what lies behind it
+  behind : (before : List ℕ) (a k : ℕ) → (before ++ take k (drop a bytes)) ++ drop (a + k) bytes ≡ before ++ drop a bytes
+  behind before a k = append-assoc before (take k (drop a bytes)) (drop (a + k) bytes) ∙ ap (λ l. before ++ l) (join a k)
+
+  own-behind : (before : List ℕ) → (before ++ between bytes modelPlace remainderPlace ++ between bytes remainderPlace boardSize) ++ drop boardSize bytes ≡ before ++ drop modelPlace bytes
+  own-behind before =
+      behind (before ++ between bytes modelPlace remainderPlace) remainderPlace (boardSize - remainderPlace)
+      ∙ behind before modelPlace (remainderPlace - modelPlace)
+
+  onto : (front : List ℕ) (p k : ℕ) → length front ≡ k → (take p bytes ++ front) ++ drop (p + k) bytes ≡ over front bytes p
+  onto front p k len = ap (λ n. (take p bytes ++ front) ++ drop (p + n) bytes) (sym len)
 
   module _ (front : List ℕ) (len : length front ≡ channelSize) where
     at-first : (front ++ recordPart bytes 1 ++ recordPart bytes 2 ++ between bytes modelPlace remainderPlace ++ between bytes remainderPlace boardSize) ++ drop boardSize bytes
         ≡ over front bytes (recordPlace 0)
-    at-first = simp (append-assoc, own-behind, join (recordPlace 2) channelSize, join (recordPlace 1) channelSize, len)
+    at-first =
+        own-behind (front ++ recordPart bytes 1 ++ recordPart bytes 2)
+        ∙ behind (front ++ recordPart bytes 1) (recordPlace 2) channelSize
+        ∙ behind front (recordPlace 1) channelSize
+        ∙ onto front (recordPlace 0) channelSize len
 
     at-second : (recordPart bytes 0 ++ front ++ recordPart bytes 2 ++ between bytes modelPlace remainderPlace ++ between bytes remainderPlace boardSize) ++ drop boardSize bytes
         ≡ over front bytes (recordPlace 1)
-    at-second = simp (append-assoc, own-behind, join (recordPlace 2) channelSize, len)
+    at-second =
+        own-behind (recordPart bytes 0 ++ front ++ recordPart bytes 2)
+        ∙ behind (recordPart bytes 0 ++ front) (recordPlace 2) channelSize
+        ∙ onto front (recordPlace 1) channelSize len
 
     at-third : (recordPart bytes 0 ++ recordPart bytes 1 ++ front ++ between bytes modelPlace remainderPlace ++ between bytes remainderPlace boardSize) ++ drop boardSize bytes
         ≡ over front bytes (recordPlace 2)
-    at-third = rw (take-add channelSize channelSize bytes) (simp (append-assoc, own-behind, len))
+    at-third =
+        own-behind (recordPart bytes 0 ++ recordPart bytes 1 ++ front)
+        ∙ ap (λ l. (l ++ front) ++ drop modelPlace bytes) (sym (before-third bytes))
+        ∙ onto front (recordPlace 2) channelSize len
 
   -- one channel written: its record
   pub replaced : (n : ℕ) → n < 3 → (c : Channel) → stored (board.withChannel (boardIn bytes) n c) bytes ≡ over (channelBytes c) bytes (recordPlace n)
@@ -81,8 +100,7 @@ module _ (bytes : List ℕ) (all : (p : ℕ) → getD bytes p 0 < 256) (h : Hold
       → (recordPart bytes 0 ++ recordPart bytes 1 ++ recordPart bytes 2 ++ between bytes modelPlace remainderPlace ++ front) ++ drop boardSize bytes
       ≡ over front bytes remainderPlace
   at-time front len =
-      rw (take-add modelPlace (remainderPlace - modelPlace) bytes, take-add (recordPlace 2) channelSize bytes, take-add channelSize channelSize bytes)
-      (simp (append-assoc, len))
+      ap (λ l. (l ++ front) ++ drop boardSize bytes) (sym (before-time bytes)) ∙ onto front remainderPlace (boardSize - remainderPlace) len
 
   -- the board's time written
   pub timed : (remainder warp : ℕ) (defer : Bool) (owed : ℕ)
