@@ -56,16 +56,16 @@ answers b value events = record { reply = accepted value; board = b; events = ev
 abbrev pub cleared : Board → ℕ → DirtyAnswer → List ℕ → Outcome
 cleared b n d events = answers (withChannel b n (d .channel)) (dirtyMarks (d .dirty) (d .counting) (d .ticked)) events
 
-abbrev pub queried : Board → ℕ → Query → List ℕ → Outcome
-queried b n query.OutputState events = answers b (outputState (channel.getOutputState (channelAt b n))) events
-queried b n query.ChannelCount events = answers b (countValue (channel.getChannelCount (channelAt b n))) events
-queried b n query.Retriggers events = answers b (retriggers (channel.doesChannelRetrigger (channelAt b n))) events
-queried b n query.IsDirty events = cleared b n (channel.isDirty (channelAt b n)) events
+abbrev pub queryAnswered : Board → ℕ → Query → List ℕ → Outcome
+queryAnswered b n query.OutputState events = answers b (outputState (channel.getOutputState (channelAt b n))) events
+queryAnswered b n query.ChannelCount events = answers b (countValue (channel.getChannelCount (channelAt b n))) events
+queryAnswered b n query.Retriggers events = answers b (retriggers (channel.doesChannelRetrigger (channelAt b n))) events
+queryAnswered b n query.IsDirty events = cleared b n (channel.isDirty (channelAt b n)) events
 
 -- what is done to the part, on a board with these event bytes lent
 abbrev pub parted : Board → Part → List ℕ → ℕ → Outcome
 parted b (Turned t) events place = turned b t events place
-parted b (Ask n q) events place = queried b n q events
+parted b (Ask n q) events place = queryAnswered b n q events
 parted b TimerAccum events place = answers b (timerAccum (getTimerAccum b)) events
 
 -- a part's channel is one of the board's

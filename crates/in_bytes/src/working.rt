@@ -31,7 +31,7 @@ ghost use Rattle.turn.specs.Turn.{turned, OnBoard};
 ghost use Rattle.board_operation.specs.Made.{operate};
 ghost use Rattle.board_encoding.specs.Loaded.{boardIn, HoldsBoard};
 ghost use Rattle.in_bytes.specs.Called.{calling, call};
-ghost use Rattle.in_bytes.specs.Inner.{queried, told, written, operated};
+ghost use Rattle.in_bytes.specs.Inner.{queryAnswered, told, written, operated};
 
 // What a call comes to, before its answer is written.
 pub enum Called {
@@ -133,7 +133,7 @@ fn turn_in(bytes: &mut [u8], turn: Turn, events: &mut [u8], place: usize) -> Num
 fn ask(bytes: &mut [u8], n: u8, query: Query) -> Numbers
     requires { ⌜ n < 3 ⌝ }
     requires { ⌜ HoldsBoard (now bytes) ⌝ }
-    ensures { λ r. ⌜ ((events : List ℕ) → told r (now (bytes .exit)) events ≡ written (queried (boardIn (now (bytes .entry))) n query events) (now (bytes .entry))) ⌝ }
+    ensures { λ r. ⌜ ((events : List ℕ) → told r (now (bytes .exit)) events ≡ written (queryAnswered (boardIn (now (bytes .entry))) n query events) (now (bytes .entry))) ⌝ }
 {
     let i = n as usize;
     let c = channel_in(bytes, i);
