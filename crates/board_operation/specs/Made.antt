@@ -10,7 +10,7 @@ use Rattle.step.specs.Operation as call
 use Rattle.step.specs.Step.{step}
 use Rattle.board_operation.specs.declared.Operation.{Operation}
 use Rattle.board_operation.specs.declared.Operation.the-variants.{WritePort, ReadPort, SetChannelGate, Counts, LoadCycle, CatchUp, Run, Reset, GetOutputState, GetChannelCount, DoesChannelRetrigger, IsDirty, GetTimerAccum, WorkOff}
-use Rattle.board_operation.specs.declared.making.Numbers.{Numbers}
+use Rattle.board_operation.specs.declared.answering.Numbers.{Numbers}
 
 -- the call of the board
 abbrev pub asked : Operation → List ℕ → ℕ → call.Operation

@@ -10,10 +10,12 @@ use board::Board;
 use board::Worked;
 pub use lending::answers_into;
 pub use lending::replay_into;
+use line::LINE_ROOM;
 use line::Line;
 use line::sentence::Sentence;
 use time::SystemTicks;
 use time::TimerTicks;
+use trace::MOST_OPERATIONS;
 use trace::head::Head;
 use trace::head::Judged;
 use turn::finding::Turn;
@@ -34,7 +36,10 @@ ghost use Rattle.runner.specs.Printed.{said, roomOf, toldFrom, printedTr
 ghost use Rattle.runner.specs.Inner.{toTell, turnAt, Puts};
 ghost use Rattle.io.specs.Counts.{Counts};
 
-// What is said of each operation: its line, or its answer in 16 bytes.
+// Room for what is printed of every trace: a line for the head, for each operation and for the end.
+pub const TEXT_ROOM: usize = LINE_ROOM * (MOST_OPERATIONS as usize + 2);
+
+// What is said of each operation: its line, or its answer in bytes.
 pub enum Form {
     Lines,
     Answers,
@@ -77,7 +82,7 @@ fn say(
             put_line(out, place, line)
         }
         Form::Answers => {
-            let bytes = answering::answer_bytes(answer, events, left);
+            let bytes = answering::trace_answer_bytes(answer, events, left);
             text::put(out, place, &bytes)
         }
     }
@@ -302,9 +307,8 @@ fn replay_sound(trace: &[u8], head: Head, out: &mut [u8]) -> usize
     put_line(out, place, last)
 }
 
-// How many bytes are printed. They stand at the front; the rest stays as it was. There is room for every trace: 64 bytes for the head, for each of 4,096
-// operations and for the end.
-pub fn replay(trace: &[u8], out: &mut [u8; 262272]) -> usize
+// How many bytes are printed. They stand at the front; the rest stays as it was.
+pub fn replay(trace: &[u8], out: &mut [u8; TEXT_ROOM]) -> usize
     ensures { λ r. ⌜ Prints (printed (now (trace .entry))) (now (out .entry)) r (now (out .exit)) ⌝ }
     ensures { λ r. ⌜ Counts r (now (out .exit)) ⌝ }
 {

@@ -1,3 +1,4 @@
+pub mod Sizes
 pub mod Judgement
 pub mod Head
 pub mod Rule

@@ -6,6 +6,7 @@ use mathlib.Core.Path.{_≡_}
 use lib.ListN.{length, getD}
 use Rattle.numbers.specs.Number.{numberAt}
 use Rattle.trace.specs.Judgement.{Faulted, faultAt}
+use Rattle.trace.specs.Sizes.{operationSize, mostOperations}
 use Rattle.trace.specs.Operation.{placeOf}
 
 -- a number of the table, "P the field's offset", and its "Given exactly when"
@@ -31,7 +32,7 @@ modelAbove1 bytes = record { fault = faultAt 14 8; condition = 1 < numberAt byte
 
 -- 11: "operation count above 4,096"
 abbrev pub tooManyOperations : List ℕ → Row
-tooManyOperations bytes = record { fault = faultAt 11 12; condition = 4096 < numberAt bytes 12 }
+tooManyOperations bytes = record { fault = faultAt 11 12; condition = mostOperations < numberAt bytes 12 }
 
 -- 12: "operation code not 1 to 8"; "12 now means not 1 to 9" (02, L1)
 abbrev pub unknownCode : List ℕ → ℕ → Row
@@ -66,7 +67,7 @@ headOrder bytes =
 -- "Of an operation all six bytes, then code, target, number."
 abbrev pub operationOrder : List ℕ → ℕ → List Row
 operationOrder bytes place =
-    endsBefore bytes (place + 6) ∷ unknownCode bytes place ∷ targetNotZero bytes place ∷ numberBreaksRule bytes place ∷ []
+    endsBefore bytes (place + operationSize) ∷ unknownCode bytes place ∷ targetNotZero bytes place ∷ numberBreaksRule bytes place ∷ []
 
 -- the operations from an index on, as many as are left, and what follows the last
 abbrev pub operationsOrder : List ℕ → ℕ → ℕ → List Row

@@ -1,9 +1,9 @@
 -- `in_bytes::working::elapse` meets its contract. Assumes nothing.
 use mathlib.Core.Path.{ap, _∙_}
 use denote.Ref.{now}
-use Rattle.in_bytes.specs.Parts.{boardIn}
+use Rattle.board_encoding.specs.Loaded.{boardIn}
 use Rattle.turn.specs.Turn.{timeAfter, timedOn}
-use Rattle.in_bytes.specs.Written.{told, written}
+use Rattle.in_bytes.specs.Inner.{told, written}
 use borrow.Author.Needs.{needs}
 use Rattle.in_bytes.proofs.working.elapse.Statement.{statement}
 use Rattle.in_bytes.proofs.working.elapse.Tie as tie
