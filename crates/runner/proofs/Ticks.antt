@@ -13,7 +13,7 @@ use Rattle.board.specs.Answer.{replyOf}
 use Rattle.board.specs.Outcome.{Value, Outcome, worked}
 use Rattle.owed.specs.declared.Ticked.{Ticked}
 use Rattle.owed.specs.Ticked.{Has, tickedOn}
-use Rattle.owed.specs.Alike.{QuietRun}
+use Rattle.owed.specs.Inner.{QuietRun}
 use Rattle.owed.specs.Worked.{workOff}
 use Rattle.owed.proofs.Runs.{three-are}
 use Rattle.step.proofs.Three.{steps-three}

@@ -1,5 +1,5 @@
--- How the loop that works ticks off goes on: runs of quiet ticks in one step (docs/TICK.md, "Many ticks at once"). What follows says nothing new of
--- owed ticks and need not be believed: the contracts of `work_off` and `work_channels` are about ticks made one after another.
+-- Not for readers: how the loop that works ticks off makes a run of quiet ticks in one step (docs/TICK.md, "Many ticks at once"). It says nothing new of owed ticks:
+-- the contract of `work_channels` is about ticks made one after another.
 use Prim.Native.Nat.{ℕ, _-_, _<_, _≤_}
 use mathlib.Core.Bool.{cond}
 use mathlib.Core.List.{List, [], _∷_}

@@ -1,4 +1,4 @@
--- `owed::work_on` meets its contract. Assumes nothing.
+-- `owed::work_up_to` meets its contract. Assumes nothing.
 use Prim.Native.Nat.{_+_, _-_, _<_, _≤_}
 use native.Mathlib.Omega.{arith}
 use lib.ListN.{length}
@@ -8,8 +8,8 @@ use Rattle.owed.proofs.Puts.{size-small}
 use Rattle.owed.proofs.Skips.{Few, alike-few}
 use Rattle.owed.proofs.Turns.{Ticks}
 use Rattle.owed.proofs.Working.{Working, begins, all-made, none-owed, too-full, goes-one, goes-many}
-use Rattle.owed.proofs.work_on.Statement.{statement}
-use Rattle.owed.proofs.work_on.Tie as tie
+use Rattle.owed.proofs.work_up_to.Statement.{statement}
+use Rattle.owed.proofs.work_up_to.Tie as tie
 
 abbrev Inv-loop : tie.InvT-loop
 Inv-loop model stated events₀ place d0₀ d1₀ d2₀ left₀ made₀ at₀ events d0 d1 d2 left made at =
@@ -59,14 +59,14 @@ Sized = tie.After-size3 Inv-loop μ-loop
 abbrev asked : Sized → Asked
 asked z = z .before .before .before .before .before .before .before .before .before .before
 
-first : (z : Sized) → Ticks (start (asked z) .args .model) 0 (turn (asked z) .loop .d0) (z .before .before .before .before .before .before .before .before .tick .result) (z .before .before .before .before .before .tick-event .result)
-first z = record { after = z .before .before .before .before .before .before .before .before .tick .ensures; event = z .before .before .before .before .before .tick-event .ensures }
+first : (z : Sized) → Ticks (start (asked z) .args .model) 0 (turn (asked z) .loop .d0) (z .before .before .before .before .before .before .before .before .tick .result) (z .before .before .before .before .before .level-event .result)
+first z = record { after = z .before .before .before .before .before .before .before .before .tick .ensures; event = z .before .before .before .before .before .level-event .ensures }
 
-second : (z : Sized) → Ticks (start (asked z) .args .model) 1 (turn (asked z) .loop .d1) (z .before .before .before .before .before .before .before .tick2 .result) (z .before .before .before .before .tick-event2 .result)
-second z = record { after = z .before .before .before .before .before .before .before .tick2 .ensures; event = z .before .before .before .before .tick-event2 .ensures }
+second : (z : Sized) → Ticks (start (asked z) .args .model) 1 (turn (asked z) .loop .d1) (z .before .before .before .before .before .before .before .tick2 .result) (z .before .before .before .before .level-event2 .result)
+second z = record { after = z .before .before .before .before .before .before .before .tick2 .ensures; event = z .before .before .before .before .level-event2 .ensures }
 
-third : (z : Sized) → Ticks (start (asked z) .args .model) 2 (turn (asked z) .loop .d2) (z .before .before .before .before .before .before .tick3 .result) (z .before .before .before .tick-event3 .result)
-third z = record { after = z .before .before .before .before .before .before .tick3 .ensures; event = z .before .before .before .tick-event3 .ensures }
+third : (z : Sized) → Ticks (start (asked z) .args .model) 2 (turn (asked z) .loop .d2) (z .before .before .before .before .before .before .tick3 .result) (z .before .before .before .level-event3 .result)
+third z = record { after = z .before .before .before .before .before .before .tick3 .ensures; event = z .before .before .before .level-event3 .ensures }
 
 sub-if3 : tie.Need-sub-if3 Inv-loop μ-loop
 sub-if3 c = omega (arith, c .before .before .before .before .before .before .before .before .before .before .loop .inv .inside)
@@ -74,12 +74,12 @@ sub-if3 c = omega (arith, c .before .before .before .before .before .before .bef
 add-if3 : tie.Need-add-if3 Inv-loop μ-loop
 add-if3 c =
     omega
-    (arith, c .before .size .ensures, c .size2 .ensures, size-small (c .before .before .before .before .tick-event .result), size-small (c .before .before .before .tick-event2 .result))
+    (arith, c .before .size .ensures, c .size2 .ensures, size-small (c .before .before .before .before .level-event .result), size-small (c .before .before .before .level-event2 .result))
 
 add-if3-2 : tie.Need-add-if3-2 Inv-loop μ-loop
 add-if3-2 c =
     omega
-    (arith, c .before .before .size .ensures, c .before .size2 .ensures, c .size3 .ensures, size-small (c .before .before .before .before .before .tick-event .result), size-small (c .before .before .before .before .tick-event2 .result), size-small (c .before .before .before .tick-event3 .result))
+    (arith, c .before .before .size .ensures, c .before .size2 .ensures, c .size3 .ensures, size-small (c .before .before .before .before .before .level-event .result), size-small (c .before .before .before .before .level-event2 .result), size-small (c .before .before .before .level-event3 .result))
 
 same-length-2 : tie.Need-same-length-2 Inv-loop μ-loop
 same-length-2 c = turn (asked (c .before .before)) .loop .inv .same-length
@@ -90,7 +90,7 @@ returns-2 c =
     let z = c .before .before in
     let q = asked z in
     let l = turn q .loop in
-    let short : length (l .events) - l .at < size (z .before .before .before .before .before .tick-event .result) + size (z .before .before .before .before .tick-event2 .result) + size (z .before .before .before .tick-event3 .result) =
+    let short : length (l .events) - l .at < size (z .before .before .before .before .before .level-event .result) + size (z .before .before .before .before .level-event2 .result) + size (z .before .before .before .level-event3 .result) =
     omega (arith, c .before .if3 .taken, z .before .before .size .ensures, z .before .size2 .ensures, z .size3 .ensures) in
     λ b has. rw (c .worked2 .ensures b (l .events)) (too-full (l .inv) (going q) (q .before .if1 .left) (first z) (second z) (third z) short b has)
 
@@ -117,7 +117,7 @@ loop-again c =
     let z = sized c in
     let q = asked z in
     let l = turn q .loop in
-    let enough : size (z .before .before .before .before .before .tick-event .result) + size (z .before .before .before .before .tick-event2 .result) + size (z .before .before .before .tick-event3 .result) ≤ length (l .events) - l .at =
+    let enough : size (z .before .before .before .before .before .level-event .result) + size (z .before .before .before .before .level-event2 .result) + size (z .before .before .before .level-event3 .result) ≤ length (l .events) - l .at =
     omega (arith, c .before .before .before .before .if3 .left, z .before .before .size .ensures, z .before .size2 .ensures, z .size3 .ensures) in
     goes-one (l .inv) (going q) (q .before .if1 .left) (first z) (second z) (third z) enough _ _ (c .before .before .put-events .ensures)
 
@@ -156,8 +156,8 @@ returns-3 c =
     let l = c .before .before .loop in
     λ b has. rw (c .worked3 .ensures b (l .events)) (all-made (l .inv) (c .before .loop-test .left) b has)
 
-pub work-on-spec : {M : Type 1} → statement M
-work-on-spec =
+pub work-up-to-spec : {M : Type 1} → statement M
+work-up-to-spec =
     tie.close
     (tie.spec
     Inv-loop
