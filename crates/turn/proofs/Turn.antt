@@ -28,8 +28,8 @@ use Rattle.turn.specs.declared.finding.Work.the-variants as work
 use Rattle.turn.specs.declared.finding.Turn.{Turn}
 use Rattle.turn.specs.declared.finding.Turn.the-variants as turn
 use Rattle.turn.specs.Finding as finding
-use Rattle.turn.specs.Inner.{owes}
-use Rattle.turn.specs.Turn.{withEvents, turned}
+use Rattle.turn.specs.Inner.{owes, Bare}
+use Rattle.turn.specs.Turn.{turned}
 
 -- what is refused on a condition ..
 unless : (x : Bool) (r : Refusal) (b : Board) (t : Turn) (events : List ℕ) (place : ℕ)
@@ -65,12 +65,7 @@ module _ (b : Board) (events : List ℕ) (place : ℕ) where
       ap (onChannel b n events) (unless-owed (eqb (b .owed .0) 0) b (turn.OnChannel n (work.SetGate level)) events place)
       ∙ unless (ltb 2 n) refusal.ChannelAbove2 b _ events place
 
--- A call that lends no bytes comes to a turn, whatever bytes the turn is lent.
-pub record Bare (b : Board) (o : Outcome) (t : Turn) : Type 0 where
-  pub same : (events : List ℕ) (place : ℕ) → withEvents events o ≡ turned b t events place
-  pub none : o .events ≡ []
-
--- .. also where it is refused on a condition ..
+-- A call that lends no bytes, where it is refused on a condition ..
 bare-unless : (x : Bool) (r : Refusal) (b : Board) (o : Outcome) (t : Turn) → Bare b o t
     → Bare b (cond x (refuse (refusalNumber r) b []) o) (cond x (finding.refuse r) t)
 bare-unless true r b o t is = record { same = λ events place. refl; none = refl }
