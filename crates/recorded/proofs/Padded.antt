@@ -4,7 +4,7 @@ use mathlib.Core.List.{List, [], _∷_}
 use mathlib.Core.Path.{_≡_, refl}
 use native.Mathlib.Omega.{arith}
 use lib.ListN.{length, getD}
-use Rattle.turn.specs.Asked.{padded}
+use Rattle.recorded.specs.Asked.{padded}
 
 pub two-padded : (events : List ℕ) → length events ≡ 2 → padded events ≡ getD events 0 0 ∷ getD events 1 0 ∷ 0 ∷ 0 ∷ 0 ∷ 0 ∷ []
 two-padded [] e = refl

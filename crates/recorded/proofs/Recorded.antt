@@ -14,16 +14,19 @@ use Rattle.ports.specs.declared.port.Port.the-variants as port
 use Rattle.ports.specs.Port.{portOf}
 use Rattle.trace.specs.declared.operation.Operation.{Operation}
 use Rattle.trace.specs.declared.operation.Operation.the-variants as recorded
 use Rattle.turn.specs.declared.finding.Turn.{Turn}
-use Rattle.turn.specs.Asked.{lent, padded}
-use Rattle.turn.specs.Made.{inSix, make}
-use Rattle.turn.specs.Finding.{commandTurn, writeTurn, readTurn, gateTurn, countsTurn, loadCycleTurn, resetTurn, turnOf}
-use Rattle.turn.specs.Turn.{owes, turned, turnedInSix}
-use Rattle.turn.proofs.Turn.{Bare, write-is, gate-is, read-is, counts-is, load-cycle-is, catch-up-is, run-is, reset-is}
+use Rattle.recorded.specs.Asked.{twoLent, padded}
+use Rattle.recorded.specs.Made.{inSix, make}
+use Rattle.turn.specs.Finding.{commandTurn, writeTurn, readTurn}
+use Rattle.turn.specs.Inner.{owes, Bare}
+use Rattle.turn.specs.Turn.{turned}
+use Rattle.recorded.specs.Finding.{turnOf}
+use Rattle.recorded.specs.Inner.{turnedInSix}
+use Rattle.turn.proofs.Turn.{write-is, gate-is, read-is, counts-is, load-cycle-is, catch-up-is, run-is, reset-is}
 
 -- a turn that is lent two bytes
 abbrev Two : Board → Turn → Type 0
-Two b t = inSix (turned b t lent 0) ≡ turnedInSix b t
+Two b t = inSix (turned b t twoLent 0) ≡ turnedInSix b t
 
 module _ (b : Board) where
   either : (x : Bool) (s t : Turn) → Two b s → Two b t → Two b (cond x s t)
@@ -48,14 +51,14 @@ module _ (b : Board) where
   -- a call that lends no bytes: in six places none and two are the same
   bare : (o : Outcome) (t : Turn) → Bare b o t → Two b t → inSix o ≡ turnedInSix b t
   bare o t is two =
-      ap {B = Outcome} (λ (events : List ℕ). record { reply = o .reply; board = o .board; events = padded events }) (is .none) ∙ ap inSix (is .same lent 0) ∙ two
+      ap {B = Outcome} (λ (events : List ℕ). record { reply = o .reply; board = o .board; events = padded events }) (is .none) ∙ ap inSix (is .same twoLent 0) ∙ two
 
 pub turn-made : (b : Board) (o : Operation) → make b o ≡ turnedInSix b (turnOf (owes b) o)
 unfolding make turnOf
-turn-made b (recorded.WritePort number byte) = ap inSix (write-is b lent 0 number byte) ∙ of-write b (portOf number) byte
+turn-made b (recorded.WritePort number byte) = ap inSix (write-is b twoLent 0 number byte) ∙ of-write b (portOf number) byte
 turn-made b (recorded.ReadPort number) = bare b _ _ (read-is b number) (of-read b (portOf number))
 turn-made b (recorded.SetChannelGate channel level) =
-    ap inSix (gate-is b lent 0 channel level) ∙ either b (ltb 2 channel) _ _ refl (either b (owes b) _ _ refl refl)
+    ap inSix (gate-is b twoLent 0 channel level) ∙ either b (ltb 2 channel) _ _ refl (either b (owes b) _ _ refl refl)
 turn-made b (recorded.Counts channel number) =
     bare b _ _ (counts-is b channel number) (either b (ltb 2 channel) _ _ refl (either b (ltb 65536 number) _ _ refl refl))
 turn-made b (recorded.LoadCycle channel) = bare b _ _ (load-cycle-is b channel) (either b (ltb 2 channel) _ _ refl refl)

@@ -10,24 +10,26 @@ use Rattle.event.specs.declared.Event.the-variants.{Unchanged, Level}
 use Rattle.event.specs.Event.{placeEvent}
 use Rattle.event.proofs.Room.{standing-level}
 use Rattle.board.specs.declared.Board.{Board}
+use Rattle.board.specs.Board.{channelAt, withChannel}
 use Rattle.board.specs.Outcome.{newPlace}
-use Rattle.ports.specs.Settle.{untouched}
+use Rattle.ports.specs.Settle.{settle, untouched}
 use Rattle.turn.specs.declared.finding.Turn.the-variants as turn
-use Rattle.turn.specs.Asked.{lent, six}
-use Rattle.turn.specs.Turn.{changed, doneInSix, turnedInSix}
+use Rattle.recorded.specs.Asked.{twoLent, sixLent}
+use Rattle.recorded.specs.Made.{inSix}
+use Rattle.recorded.specs.Inner.{turnedInSix}
 
-pub enough : (event : Event) (k : ℕ) → placeEvent event lent 0 .reply ≡ refused k → ⊥
+pub enough : (event : Event) (k : ℕ) → placeEvent event twoLent 0 .reply ≡ refused k → ⊥
 unfolding placeEvent
 enough Unchanged k e = not-refused 0 k e
 enough (Level channel level) k e = not-refused 2 k e
 
 -- a latch leaves the output as it is, so it raises no event
-pub latch-unheard : (n : ℕ) (c next : Channel) → next ≡ latchCount c
-    → doneInSix (changed n c (latchCount c) lent 0) ≡ record { reply = accepted (newPlace 0); channel = next; events = six }
-unfolding latchCount placeEvent
-latch-unheard n c next is = rw is (simp (standing-level n (c .pins .output)))
+pub latch-unheard : (b : Board) (n : ℕ) (next : Channel) → next ≡ latchCount (channelAt b n)
+    → inSix (settle b n (latchCount (channelAt b n)) twoLent 0) ≡ record { reply = accepted (newPlace 0); board = withChannel b n next; events = sixLent }
+unfolding latchCount placeEvent settle
+latch-unheard b n next is = rw is (simp (standing-level n (channelAt b n .pins .output)))
 
 -- and so does a command that does nothing
-pub nothing-unheard : (b : Board) → turnedInSix b turn.Untouched ≡ record { reply = accepted (newPlace 0); board = b; events = six }
+pub nothing-unheard : (b : Board) → turnedInSix b turn.Untouched ≡ record { reply = accepted (newPlace 0); board = b; events = sixLent }
 unfolding untouched placeEvent
 nothing-unheard b = refl

@@ -4,8 +4,8 @@ use mathlib.Core.Path.{_≡_, refl}
 use Rattle.board.specs.declared.Board.{Board}
 use Rattle.step.specs.Step.{step, steps}
 use Rattle.trace.specs.declared.operation.Operation.{Operation}
-use Rattle.turn.specs.Asked.{asked}
-use Rattle.turn.specs.Made.{make, makeAll}
+use Rattle.recorded.specs.Asked.{asked}
+use Rattle.recorded.specs.Made.{make, makeAll}
 
 same-board : (b : Board) (o : Operation) → make b o .board ≡ step b (asked o) .board
 unfolding make

@@ -7,24 +7,24 @@ use Rattle.trace.specs.declared.operation.Operation.the-variants as recorded
 use Rattle.step.specs.Operation as call
 
 -- Document 01, "Recorded traces": "It always lends two event bytes at place 0."
-abbrev pub lent : List ℕ
-lent = 0 ∷ 0 ∷ []
+abbrev pub twoLent : List ℕ
+twoLent = 0 ∷ 0 ∷ []
 
 -- "Trace code 9, target 0, works ticks off with six event bytes lent" (02, L1)
-abbrev pub six : List ℕ
-six = 0 ∷ 0 ∷ 0 ∷ 0 ∷ 0 ∷ 0 ∷ []
+abbrev pub sixLent : List ℕ
+sixLent = 0 ∷ 0 ∷ 0 ∷ 0 ∷ 0 ∷ 0 ∷ []
 
 -- the call of the board: "1 write port, 2 read port, 3 gate, 4 counts, 5 load cycle, 6 catch-up, 7 run, 8 reset", and 9 "works ticks off"
 abbrev pub asked : Operation → call.Operation
-asked (recorded.WritePort port byte) = call.WritePort port byte lent 0
+asked (recorded.WritePort port byte) = call.WritePort port byte twoLent 0
 asked (recorded.ReadPort port) = call.ReadPort port
-asked (recorded.SetChannelGate channel level) = call.SetChannelGate channel level lent 0
+asked (recorded.SetChannelGate channel level) = call.SetChannelGate channel level twoLent 0
 asked (recorded.Counts channel number) = call.Counts channel number
 asked (recorded.LoadCycle channel) = call.LoadCycle channel
 asked (recorded.CatchUp given) = call.CatchUp (given .0)
 asked (recorded.Run given) = call.Run (given .0)
 asked recorded.Reset = call.Reset
-asked (recorded.WorkOff stated) = call.WorkOff stated six 0
+asked (recorded.WorkOff stated) = call.WorkOff stated sixLent 0
 
 -- the lent bytes after a call, in six places whatever was lent, with zeros where none was
 abbrev pub padded : List ℕ → List ℕ

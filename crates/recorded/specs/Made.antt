@@ -3,10 +3,8 @@ use mathlib.Core.List.{List, [], _∷_}
 use Rattle.trace.specs.declared.operation.Operation.{Operation}
 use Rattle.board.specs.declared.Board.{Board}
 use Rattle.board.specs.Outcome.{Outcome}
-use Rattle.board.specs.Answer.{replyOf}
 use Rattle.step.specs.Step.{step}
-use Rattle.turn.specs.declared.making.Made.{Made}
-use Rattle.turn.specs.Asked.{asked, padded}
+use Rattle.recorded.specs.Asked.{asked, padded}
 
 -- a call's reply and board, and the lent bytes after it in six places
 abbrev pub inSix : Outcome → Outcome
@@ -20,7 +18,3 @@ make b o = inSix (step b (asked o))
 abbrev pub makeAll : Board → List Operation → Board
 makeAll b [] = b
 makeAll b (o ∷ os) = makeAll (make b o .board) os
-
--- what the code answers
-abbrev pub madeOutcome : Made → Outcome
-madeOutcome m = record { reply = replyOf (m .answer); board = m .board; events = m .events }

@@ -20,7 +20,7 @@ use Rattle.trace.specs.Answer.{soundness, operationsOf}
 use Rattle.trace.proofs.Indexed.{from-index}
 use Rattle.trace.proofs.Turns.{Counts, as-many}
 use Rattle.trace.proofs.Values.{not-refused}
-use Rattle.turn.specs.Made.{make, makeAll}
+use Rattle.recorded.specs.Made.{make, makeAll}
 use Rattle.runner.specs.declared.Form.{Form}
 use Rattle.runner.specs.Printed.{roomOf, saidOf, toldFrom}
 

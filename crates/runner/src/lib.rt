@@ -112,7 +112,7 @@ fn tell(
         let operation = trace::operation_in(trace, index);
         j += 1;
         let owing = b.owed;
-        let turn = turn::turn_of(operation, owing.0 != 0);
+        let turn = recorded::turn_of(operation, owing.0 != 0);
         let none = [0u8; 6];
         match turn {
             Turn::OnChannel(n, work) => {
@@ -122,7 +122,7 @@ fn tell(
                         let c = b.channels[i];
                         let written = load::write_byte(c, byte, b.defer);
                         b.channels[i] = written;
-                        let raised = turn::raise(n, c, written);
+                        let raised = recorded::raise(n, c, written);
                         let answer = raised.answer;
                         let events = raised.events;
                         let left = b.remainder;
@@ -140,7 +140,7 @@ fn tell(
                         let model = b.model;
                         let next = mode::set_mode(c, word, model);
                         b.channels[i] = next;
-                        let raised = turn::raise(n, c, next);
+                        let raised = recorded::raise(n, c, next);
                         let answer = raised.answer;
                         let events = raised.events;
                         let left = b.remainder;
@@ -150,7 +150,7 @@ fn tell(
                         let c = b.channels[i];
                         let next = gate::set_gate(c, level);
                         b.channels[i] = next;
-                        let raised = turn::raise(n, c, next);
+                        let raised = recorded::raise(n, c, next);
                         let answer = raised.answer;
                         let events = raised.events;
                         let left = b.remainder;
@@ -183,7 +183,7 @@ fn tell(
             Turn::Elapse(given, warp, defers) => {
                 let remainder = b.remainder;
                 let since = b.warp;
-                let elapsed = turn::elapse(
+                let elapsed = clock::elapse(
                     given,
                     warp,
                     defers,

@@ -8,21 +8,25 @@ use lib.ListN.{length, take, length-map}
 use borrow.Author.Needs.{needs}
 use Rattle.channel.specs.declared.Channel.{Channel}
 use Rattle.board.specs.declared.Board.{Board}
-use Rattle.board.specs.Board.{channelAt}
-use Rattle.board.specs.Outcome.{Outcome}
+use Rattle.board.specs.Board.{withChannel}
+use Rattle.board.specs.Outcome.{Outcome, done, accept}
 use Rattle.board.specs.Making.{restored}
 use Rattle.text.specs.Put.{put, answered}
 use Rattle.trace.specs.Trace.{operationsFrom}
 use Rattle.trace.specs.Answer.{operationsOf}
 use Rattle.trace.proofs.Found.{in-sound}
-use Rattle.turn.specs.Made.{inSix}
+use Rattle.recorded.specs.Made.{inSix}
 use Rattle.turn.specs.declared.finding.Work.{Work}
 use Rattle.turn.specs.declared.finding.Turn.the-variants.{OnChannel}
-use Rattle.turn.specs.Asked.{lent}
-use Rattle.turn.specs.Turn.{WorkDone, TimeDone, changed, readDone, unheard, workOn, workedOn, timedOn, turnedInSix, doneInSix, OnBoard}
-use Rattle.turn.proofs.Room.{latch-unheard, nothing-unheard}
-use Rattle.turn.proofs.Recorded.{turn-made}
+use Rattle.turn.specs.Inner.{OnBoard}
+use Rattle.turn.specs.Turn.{withEvents, workOn}
+use Rattle.recorded.specs.Asked.{twoLent}
+use Rattle.recorded.specs.Inner.{turnedInSix}
+use Rattle.recorded.proofs.Room.{latch-unheard, nothing-unheard}
+use Rattle.recorded.proofs.Recorded.{turn-made}
 use Rattle.latch.specs.declared.reading.ByteRead.{ByteRead}
+use Rattle.ports.specs.Settle.{settle}
+use Rattle.ports.specs.Reads.{readInto}
 use Rattle.runner.specs.Printed.{roomOf, saidOf}
 use Rattle.runner.proofs.Ticks.{three-left, all-quiet, some-made}
 use Rattle.runner.proofs.Turns.{Running, begun, goes-on, ended}
@@ -76,61 +80,60 @@ on-board : (c : tie.After-known-told Inv-loop μ-loop) → c .before .turn .give
 on-board c = subst OnBoard (c .before .turn .given .1) (c .before .before .before .turn-of .ensures .1)
 
 -- work on a channel, and what it comes to
-worked : (t : Turned) (n : ℕ) (w : Work) → t .turn-of .result ≡ OnChannel n w → (v : Work) → w ≡ v → (made : WorkDone)
-    → doneInSix (workOn (channelAt (turn t .loop .b) n) n v (turn t .loop .b .model) (turn t .loop .b .defer) lent 0) ≡ made
-    → turnedInSix (turn t .loop .b) (t .turn-of .result) ≡ workedOn (turn t .loop .b) n made
+worked : (t : Turned) (n : ℕ) (w : Work) → t .turn-of .result ≡ OnChannel n w → (v : Work) → w ≡ v → (made : Outcome)
+    → inSix (workOn (turn t .loop .b) n v twoLent 0) ≡ made → turnedInSix (turn t .loop .b) (t .turn-of .result) ≡ made
 worked t n w is v same made comes =
     let b = turn t .loop .b in
-    ap (turnedInSix b) is ∙ ap (λ (u : Work). turnedInSix b (OnChannel n u)) same ∙ ap (workedOn b n) comes
+    ap (turnedInSix b) is ∙ ap (λ (u : Work). turnedInSix b (OnChannel n u)) same ∙ comes
 
 -- a byte written to a data port
 loop-again : tie.Need-loop-again Inv-loop μ-loop
 loop-again c =
     let t = c .before .before .before .before .before .before .before .before .before .before .before .before .before .before .before in
-    next t _ (worked t _ _ (c .before .before .before .before .before .before .before .before .before .before .before .before .before .turn .given .1) _ (c .before .before .before .before .before .before .before .before .before .before .work .given .1) _ (ap (λ (d : Channel). doneInSix (changed (c .before .before .before .before .before .before .before .before .before .before .before .before .before .turn .given .0 .0) (channelAt (turn t .loop .b) (c .before .before .before .before .before .before .before .before .before .before .before .before .before .turn .given .0 .0)) d lent 0)) (sym (c .before .before .before .before .before .before .before .write-byte .ensures)) ∙ c .before .before .before .before .before .before .raise .ensures)) _ _ (c .before .before .say .ensures)
+    next t _ (worked t _ _ (c .before .before .before .before .before .before .before .before .before .before .before .before .before .turn .given .1) _ (c .before .before .before .before .before .before .before .before .before .before .work .given .1) _ (ap (λ (d : Channel). inSix (settle (turn t .loop .b) (c .before .before .before .before .before .before .before .before .before .before .before .before .before .turn .given .0 .0) d twoLent 0)) (sym (c .before .before .before .before .before .before .before .write-byte .ensures)) ∙ sym (c .before .before .before .before .before .before .raise .ensures (turn t .loop .b) refl))) _ _ (c .before .before .say .ensures)
 
 -- a latch raises no event
 loop-again-2 : tie.Need-loop-again-2 Inv-loop μ-loop
 loop-again-2 c =
     let t = c .before .before .before .before .before .before .before .before .before .before .before .before in
-    next t _ (worked t _ _ (c .before .before .before .before .before .before .before .before .before .before .turn .given .1) _ (c .before .before .before .before .before .before .before .enum-told .given .1) _ (latch-unheard (c .before .before .before .before .before .before .before .before .before .before .turn .given .0 .0) (channelAt (turn t .loop .b) (c .before .before .before .before .before .before .before .before .before .before .turn .given .0 .0)) _ (c .before .before .before .before .before .latch-count .ensures))) _ _ (c .before .before .say2 .ensures)
+    next t _ (worked t _ _ (c .before .before .before .before .before .before .before .before .before .before .turn .given .1) _ (c .before .before .before .before .before .before .before .enum-told .given .1) _ (latch-unheard (turn t .loop .b) (c .before .before .before .before .before .before .before .before .before .before .turn .given .0 .0) _ (c .before .before .before .before .before .latch-count .ensures))) _ _ (c .before .before .say2 .ensures)
 
 -- a mode set
 loop-again-3 : tie.Need-loop-again-3 Inv-loop μ-loop
 loop-again-3 c =
     let t = c .before .before .before .before .before .before .before .before .before .before .before .before .before .before .before in
-    next t _ (worked t _ _ (c .before .before .before .before .before .before .before .before .before .before .before .before .before .turn .given .1) _ (c .before .before .before .before .before .before .before .before .before .before .work2 .given .1) _ (ap (λ (d : Channel). doneInSix (changed (c .before .before .before .before .before .before .before .before .before .before .before .before .before .turn .given .0 .0) (channelAt (turn t .loop .b) (c .before .before .before .before .before .before .before .before .before .before .before .before .before .turn .given .0 .0)) d lent 0)) (sym (c .before .before .before .before .before .before .before .set-mode .ensures)) ∙ c .before .before .before .before .before .before .raise2 .ensures)) _ _ (c .before .before .say3 .ensures)
+    next t _ (worked t _ _ (c .before .before .before .before .before .before .before .before .before .before .before .before .before .turn .given .1) _ (c .before .before .before .before .before .before .before .before .before .before .work2 .given .1) _ (ap (λ (d : Channel). inSix (settle (turn t .loop .b) (c .before .before .before .before .before .before .before .before .before .before .before .before .before .turn .given .0 .0) d twoLent 0)) (sym (c .before .before .before .before .before .before .before .set-mode .ensures)) ∙ sym (c .before .before .before .before .before .before .raise2 .ensures (turn t .loop .b) refl))) _ _ (c .before .before .say3 .ensures)
 
 -- a level at a gate
 loop-again-4 : tie.Need-loop-again-4 Inv-loop μ-loop
 loop-again-4 c =
     let t = c .before .before .before .before .before .before .before .before .before .before .before .before .before .before .before in
-    next t _ (worked t _ _ (c .before .before .before .before .before .before .before .before .before .before .before .before .before .turn .given .1) _ (c .before .before .before .before .before .before .before .before .before .before .work3 .given .1) _ (ap (λ (d : Channel). doneInSix (changed (c .before .before .before .before .before .before .before .before .before .before .before .before .before .turn .given .0 .0) (channelAt (turn t .loop .b) (c .before .before .before .before .before .before .before .before .before .before .before .before .before .turn .given .0 .0)) d lent 0)) (sym (c .before .before .before .before .before .before .before .set-gate .ensures)) ∙ c .before .before .before .before .before .before .raise3 .ensures)) _ _ (c .before .before .say4 .ensures)
+    next t _ (worked t _ _ (c .before .before .before .before .before .before .before .before .before .before .before .before .before .turn .given .1) _ (c .before .before .before .before .before .before .before .before .before .before .work3 .given .1) _ (ap (λ (d : Channel). inSix (settle (turn t .loop .b) (c .before .before .before .before .before .before .before .before .before .before .before .before .before .turn .given .0 .0) d twoLent 0)) (sym (c .before .before .before .before .before .before .before .set-gate .ensures)) ∙ sym (c .before .before .before .before .before .before .raise3 .ensures (turn t .loop .b) refl))) _ _ (c .before .before .say4 .ensures)
 
 -- a read
 loop-again-5 : tie.Need-loop-again-5 Inv-loop μ-loop
 loop-again-5 c =
     let t = c .before .before .before .before .before .before .before .before .before .before .before .before .before in
-    next t _ (worked t _ _ (c .before .before .before .before .before .before .before .before .before .before .before .turn .given .1) _ (c .before .before .before .before .before .before .before .before .enum-told2 .given .1) _ (ap (λ (r : ByteRead). doneInSix (readDone r lent)) (sym (c .before .before .before .before .before .before .read-byte .ensures)))) _ _ (c .before .before .say5 .ensures)
+    next t _ (worked t _ _ (c .before .before .before .before .before .before .before .before .before .before .before .turn .given .1) _ (c .before .before .before .before .before .before .before .before .enum-told2 .given .1) _ (ap (λ (r : ByteRead). inSix (withEvents twoLent (readInto (turn t .loop .b) _ r))) (sym (c .before .before .before .before .before .before .read-byte .ensures)))) _ _ (c .before .before .say5 .ensures)
 
 -- counts
 loop-again-6 : tie.Need-loop-again-6 Inv-loop μ-loop
 loop-again-6 c =
     let t = c .before .before .before .before .before .before .before .before .before .before .before .before .before in
-    next t _ (worked t _ _ (c .before .before .before .before .before .before .before .before .before .before .before .turn .given .1) _ (c .before .before .before .before .before .before .before .before .work4 .given .1) _ (ap (λ (d : Channel). doneInSix (unheard d lent)) (sym (c .before .before .before .before .before .counts .ensures)))) _ _ (c .before .before .say6 .ensures)
+    next t _ (worked t _ _ (c .before .before .before .before .before .before .before .before .before .before .before .turn .given .1) _ (c .before .before .before .before .before .before .before .before .work4 .given .1) _ (ap (λ (d : Channel). inSix (withEvents twoLent (accept done (withChannel (turn t .loop .b) _ d)))) (sym (c .before .before .before .before .before .counts .ensures)))) _ _ (c .before .before .say6 .ensures)
 
 -- a load cycle
 loop-again-7 : tie.Need-loop-again-7 Inv-loop μ-loop
 loop-again-7 c =
     let t = c .before .before .before .before .before .before .before .before .before .before .before .before in
-    next t _ (worked t _ _ (c .before .before .before .before .before .before .before .before .before .before .turn .given .1) _ (c .before .before .before .before .before .before .before .enum-told3 .given .1) _ (ap (λ (d : Channel). doneInSix (unheard d lent)) (sym (c .before .before .before .before .before .load-cycle .ensures)))) _ _ (c .before .before .say7 .ensures)
+    next t _ (worked t _ _ (c .before .before .before .before .before .before .before .before .before .before .turn .given .1) _ (c .before .before .before .before .before .before .before .enum-told3 .given .1) _ (ap (λ (d : Channel). inSix (withEvents twoLent (accept done (withChannel (turn t .loop .b) _ d)))) (sym (c .before .before .before .before .before .load-cycle .ensures)))) _ _ (c .before .before .say7 .ensures)
 
 -- a catch-up or a run
 loop-again-8 : tie.Need-loop-again-8 Inv-loop μ-loop
 loop-again-8 c =
     let t = c .before .before .before .before .before .before .before .before .before .before .before .before .before in
     let b = turn t .loop .b in
-    next t _ (ap (turnedInSix b) (c .before .before .before .before .before .before .before .before .before .before .before .turn2 .given .1) ∙ ap (λ (r : TimeDone). inSix (timedOn b r lent)) (sym (c .before .before .before .before .before .before .before .elapse .ensures))) _ _ (c .before .before .say8 .ensures)
+    next t _ (ap (turnedInSix b) (c .before .before .before .before .before .before .before .before .before .before .before .turn2 .given .1) ∙ ap (λ (o : Outcome). inSix (withEvents twoLent o)) (sym (c .before .before .before .before .before .before .before .elapse .ensures b (record { divisor-is = refl; remainder-is = refl; warp-is = refl; defer-is = refl; owed-is = refl })))) _ _ (c .before .before .say8 .ensures)
 
 -- a reset
 loop-again-9 : tie.Need-loop-again-9 Inv-loop μ-loop

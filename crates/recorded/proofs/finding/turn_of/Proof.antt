@@ -1,9 +1,9 @@
--- `turn::finding::turn_of` meets its contract. Assumes nothing.
+-- `recorded::finding::turn_of` meets its contract. Assumes nothing.
 use mathlib.Core.Path.{refl}
-use Rattle.turn.specs.Finding.{turnOf}
+use Rattle.recorded.specs.Finding.{turnOf}
 use borrow.Author.Needs.{needs}
-use Rattle.turn.proofs.finding.turn_of.Statement.{statement}
-use Rattle.turn.proofs.finding.turn_of.Tie as tie
+use Rattle.recorded.proofs.finding.turn_of.Statement.{statement}
+use Rattle.recorded.proofs.finding.turn_of.Tie as tie
 
 returns : tie.Need-returns
 unfolding turnOf

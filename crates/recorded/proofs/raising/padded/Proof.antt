@@ -1,10 +1,10 @@
--- `turn::padding::padded` meets its contract. Assumes nothing.
+-- `recorded::raising::padded` meets its contract. Assumes nothing.
 use mathlib.Core.Path.{_≡_, sym}
 use lib.ListN.{length}
 use borrow.Author.Needs.{needs}
-use Rattle.turn.proofs.Padded.{two-padded}
-use Rattle.turn.proofs.padding.padded.Statement.{statement}
-use Rattle.turn.proofs.padding.padded.Tie as tie
+use Rattle.recorded.proofs.Padded.{two-padded}
+use Rattle.recorded.proofs.raising.padded.Statement.{statement}
+use Rattle.recorded.proofs.raising.padded.Tie as tie
 
 returns : tie.Need-returns
 returns c =
