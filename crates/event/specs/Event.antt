@@ -7,6 +7,7 @@ use lib.ListN.{length, take, drop}
 use Rattle.numbers.specs.Flags.{flagNumber}
 use Rattle.refusal.specs.Reply.{Reply, refused, accepted}
 use Rattle.refusal.specs.Refusal.{refusalNumber}
+use Rattle.channel.specs.declared.Channel.{Channel}
 use Rattle.event.specs.declared.Event.{Event}
 use Rattle.event.specs.declared.Event.the-variants.{Unchanged, Level}
 use Rattle.event.specs.declared.Placed.{Placed}
@@ -22,6 +23,10 @@ sameLevel false false = true
 -- "a change of output level"; "Setting a level that already stands is no event."
 abbrev pub eventOf : ℕ → Bool → Bool → Event
 eventOf channel was is = cond (sameLevel was is) Unchanged (Level channel is)
+
+-- .. of a channel whose record a call or a tick replaces: the level after it against the level before
+abbrev pub levelEvent : ℕ → Channel → Channel → Event
+levelEvent n old new = eventOf n (old .pins .output) (new .pins .output)
 
 -- "two bytes, the channel's place on the board (0 to 2) then level (0 or 1)", and none where the output stays
 abbrev pub eventBytes : Event → List ℕ

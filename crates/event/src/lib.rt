@@ -1,10 +1,11 @@
 // Output events: two bytes for a change of output level, in the rest of the bytes that a call lends. No board is needed here.
+use channel::Channel;
 use refusal::Refusal;
 ghost use mathlib.Core.Path.{_≡_};
 ghost use Prim.Native.Nat.{_≤_};
 ghost use mathlib.Core.List.{_++_};
 ghost use lib.ListN.{length, drop};
-ghost use Rattle.event.specs.Event.{sameLevel, eventOf, eventBytes, placing, placeEvent};
+ghost use Rattle.event.specs.Event.{sameLevel, eventOf, levelEvent, eventBytes, placing, placeEvent};
 
 pub enum Event {
     // The output stays where it is.
@@ -30,13 +31,22 @@ fn same_level(was: bool, is: bool) -> bool
 }
 
 // The event of an output that goes from one level to another.
-pub fn event_of(channel: u8, was: bool, is: bool) -> Event
+fn event_of(channel: u8, was: bool, is: bool) -> Event
     ensures { λ r. ⌜ r ≡ eventOf channel was is ⌝ }
 {
     if same_level(was, is) {
         return Event::Unchanged;
     }
     Event::Level(channel, is)
+}
+
+// The event of a channel, at this place on the board, whose record becomes another.
+pub fn level_event(n: u8, old: Channel, new: Channel) -> Event
+    ensures { λ r. ⌜ r ≡ levelEvent n old new ⌝ }
+{
+    let was = old.pins;
+    let is = new.pins;
+    event_of(n, was.output, is.output)
 }
 
 // The event writer: it is lent the rest of the event bytes, from the place on.

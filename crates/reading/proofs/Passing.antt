@@ -25,7 +25,7 @@ use Rattle.ports.specs.declared.port.Port.{Port}
 use Rattle.ports.specs.declared.port.Port.the-variants.{Data, Command, Unknown}
 use Rattle.ports.specs.Port.{portOf}
 use Rattle.ports.specs.Settle.{settle}
-use Rattle.ports.proofs.Settled.{settle-holds}
+use Rattle.ports.proofs.Settling.{settle-holds}
 use Rattle.ports.specs.Gates.{setChannelGate}
 use Rattle.ports.specs.Writes.{writeTo, writePort}
 use Rattle.owed.specs.BoardTick.{boardTick}

@@ -21,10 +21,11 @@ use Rattle.trace.proofs.Found.{in-sound}
 use Rattle.trace.proofs.Indexed.{from-index}
 use Rattle.trace.proofs.Turns.{Counts, as-many}
 use Rattle.trace.proofs.Values.{not-refused}
-use Rattle.turn.specs.Made.{make, makeAll}
-use Rattle.turn.specs.Finding.{turnOf}
-use Rattle.turn.specs.Turn.{owes, turnedInSix}
-use Rattle.turn.proofs.Recorded.{turn-made}
+use Rattle.turn.specs.Inner.{owes}
+use Rattle.recorded.specs.Made.{make, makeAll}
+use Rattle.recorded.specs.Finding.{turnOf}
+use Rattle.recorded.specs.Inner.{turnedInSix}
+use Rattle.recorded.proofs.Recorded.{turn-made}
 use Rattle.runner.specs.declared.Form.{Form}
 use Rattle.runner.specs.Printed.{roomOf, saidOf, toldFrom}
 use Rattle.runner.specs.Inner.{toTell, turnAt, Puts}

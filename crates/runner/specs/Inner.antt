@@ -10,7 +10,7 @@ use Rattle.trace.specs.Operation.{operationIn}
 use Rattle.trace.specs.Trace.{operationsFrom}
 use Rattle.trace.specs.Inner.{operationsOf}
 use Rattle.turn.specs.declared.finding.Turn.{Turn}
-use Rattle.turn.specs.Finding.{turnOf}
+use Rattle.recorded.specs.Finding.{turnOf}
 
 -- the operations to tell of: from an index on, as many as are asked for
 abbrev pub toTell : List ℕ → ℕ → ℕ → List Operation

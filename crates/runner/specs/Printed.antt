@@ -13,7 +13,7 @@ use Rattle.board.specs.Outcome.{Value, Outcome}
 use Rattle.board.specs.Making.{fresh}
 use Rattle.line.specs.Line.{lineRoom}
 use Rattle.line.specs.Lines.{headLine, operationLine, endLine, faultLine}
-use Rattle.turn.specs.Made.{make}
+use Rattle.recorded.specs.Made.{make}
 use Rattle.runner.specs.declared.Form.{Form}
 use Rattle.runner.specs.declared.Form.the-variants.{Lines, Answers}
 use Rattle.runner.specs.Answers.{traceAnswerSize, traceAnswerBytes}

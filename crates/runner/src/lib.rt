@@ -31,7 +31,7 @@ ghost use Rattle.text.specs.Put.{put, answered};
 ghost use Rattle.trace.specs.Judgement.{sound};
 ghost use Rattle.trace.specs.Trace.{operationsFrom, traceOf};
 ghost use Rattle.trace.specs.Inner.{soundness};
-ghost use Rattle.turn.specs.Finding.{Finds};
+ghost use Rattle.turn.specs.Inner.{Finds};
 ghost use Rattle.runner.specs.Printed.{said, roomOf, toldFrom, printedTrace, printed, Prints};
 ghost use Rattle.runner.specs.Inner.{toTell, turnAt, Puts};
 ghost use Rattle.io.specs.Counts.{Counts};
@@ -100,7 +100,7 @@ fn all_made(run: u32) -> Answer
 fn turn_at(trace: &[u8], index: u32, owing: bool) -> Turn
     ensures { λ r. ⌜ Finds (turnAt (now (trace .entry)) index owing) r ⌝ }
 {
-    turn::turn_of(trace::operation_in(trace, index), owing)
+    recorded::turn_of(trace::operation_in(trace, index), owing)
 }
 
 // What is said of the operations from the first index on, as many as are asked for. A replay from the start begins at 0; one from a later board will not.
@@ -135,7 +135,7 @@ fn tell(
                         let c = b.channels[i];
                         let written = load::write_byte(c, byte, b.defer);
                         b.channels[i] = written;
-                        let raised = turn::raise(n, c, written);
+                        let raised = recorded::raise(n, c, written);
                         let answer = raised.answer;
                         let events = raised.events;
                         let left = b.remainder;
@@ -153,7 +153,7 @@ fn tell(
                         let model = b.model;
                         let next = mode::set_mode(c, word, model);
                         b.channels[i] = next;
-                        let raised = turn::raise(n, c, next);
+                        let raised = recorded::raise(n, c, next);
                         let answer = raised.answer;
                         let events = raised.events;
                         let left = b.remainder;
@@ -163,7 +163,7 @@ fn tell(
                         let c = b.channels[i];
                         let next = gate::set_gate(c, level);
                         b.channels[i] = next;
-                        let raised = turn::raise(n, c, next);
+                        let raised = recorded::raise(n, c, next);
                         let answer = raised.answer;
                         let events = raised.events;
                         let left = b.remainder;
@@ -196,7 +196,7 @@ fn tell(
             Turn::Elapse(given, warp, defers) => {
                 let remainder = b.remainder;
                 let since = b.warp;
-                let elapsed = turn::elapse(
+                let elapsed = clock::elapse(
                     given,
                     warp,
                     defers,

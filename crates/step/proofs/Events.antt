@@ -19,7 +19,7 @@ use Rattle.control.specs.Control.{commandOf}
 use Rattle.control.proofs.Named.{named-below}
 use Rattle.event.specs.declared.Event.{Event}
 use Rattle.event.specs.declared.Event.the-variants.{Unchanged, Level}
-use Rattle.event.specs.Event.{Placing, eventOf, placeEvent}
+use Rattle.event.specs.Event.{Placing, eventOf, levelEvent, placeEvent}
 use Rattle.event.specs.Written.{Written}
 use Rattle.event.proofs.Room.{by-unchanged, by-level}
 use Rattle.event.proofs.Written.{event-written}
@@ -31,7 +31,7 @@ use Rattle.ports.specs.declared.port.Port.{Port}
 use Rattle.ports.specs.declared.port.Port.the-variants.{Data, Command as CommandPort, Unknown}
 use Rattle.ports.specs.Port.{portOf}
 use Rattle.ports.proofs.Below.{data-below}
-use Rattle.ports.specs.Settle.{callReply, levelEvent, boardAfter, placedOn, settle, untouched}
+use Rattle.ports.specs.Settle.{callReply, boardAfter, placedOn, settle, untouched}
 use Rattle.ports.specs.Gates.{setChannelGate}
 use Rattle.ports.specs.Writes.{controlRegisterWrite, writeTo, writePort}
 use Rattle.step.specs.Operation.{WritePort, SetChannelGate}

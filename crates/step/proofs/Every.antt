@@ -27,7 +27,7 @@ use Rattle.board.specs.Making.{restored, reset}
 use Rattle.board.specs.Counting.{counts, loadCycle}
 use Rattle.board.specs.Queries.{getOutputState, getChannelCount, doesChannelRetrigger, isDirty}
 use Rattle.clock.specs.Clock.{elapsed, yielding, timely, catchUp, run}
-use Rattle.clock.proofs.Elapsed.{by-time}
+use Rattle.clock.proofs.Tests.{by-time}
 use Rattle.ports.specs.declared.port.Port.{Port}
 use Rattle.ports.specs.declared.port.Port.the-variants.{Data, Command as CommandPort, Unknown}
 use Rattle.ports.specs.Port.{portOf}

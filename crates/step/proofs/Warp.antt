@@ -11,7 +11,7 @@ use Rattle.time.specs.Time.{Yield}
 use Rattle.board.specs.declared.Board.{Board}
 use Rattle.board.specs.Outcome.{Outcome, Value}
 use Rattle.clock.specs.Clock.{elapsed, yielding, catchUp, run}
-use Rattle.clock.proofs.Elapsed.{by-time}
+use Rattle.clock.proofs.Tests.{by-time}
 use Rattle.step.specs.Operation.{Operation, WritePort, ReadPort, SetChannelGate, Counts, LoadCycle, CatchUp, Run, Reset, GetOutputState, GetChannelCount, DoesChannelRetrigger, IsDirty, GetTimerAccum, WorkOff}
 use Rattle.step.specs.Step.{step, steps}
 use Rattle.step.specs.Time.{ifAccepted, taken, allTaken, isTimeCall, NoRun}

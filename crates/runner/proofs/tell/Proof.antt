@@ -3,7 +3,7 @@
 -- An arm's proof begins at the arm's own place, which is named once, and goes by `works`, of work on a channel, or by `next`, of any other turn.
 use Prim.Native.Nat.{ℕ, _+_, _-_, _≤_, _<_}
 use mathlib.Core.List.{List}
-use mathlib.Core.Path.{_≡_, sym, ap, subst, _∙_}
+use mathlib.Core.Path.{_≡_, refl, sym, ap, subst, _∙_}
 use native.Mathlib.Omega.{arith}
 use denote.Ref.{now}
 use lib.ListN.{length, take, length-map}
@@ -11,15 +11,19 @@ use borrow.Author.Needs.{needs}
 use Rattle.channel.specs.declared.Channel.{Channel}
 use Rattle.latch.specs.declared.reading.ByteRead.{ByteRead}
 use Rattle.board.specs.declared.Board.{Board}
-use Rattle.board.specs.Board.{channelAt}
-use Rattle.board.specs.Outcome.{Outcome}
+use Rattle.board.specs.Board.{withChannel}
+use Rattle.board.specs.Outcome.{Outcome, done, accept}
 use Rattle.board.specs.Making.{restored}
-use Rattle.turn.specs.Made.{inSix}
+use Rattle.ports.specs.Settle.{settle}
+use Rattle.ports.specs.Reads.{readInto}
 use Rattle.turn.specs.declared.finding.Work.{Work}
 use Rattle.turn.specs.declared.finding.Turn.the-variants.{OnChannel}
-use Rattle.turn.specs.Asked.{lent}
-use Rattle.turn.specs.Turn.{WorkDone, TimeDone, changed, readDone, unheard, workOn, workedOn, timedOn, turnedInSix, doneInSix, OnBoard}
-use Rattle.turn.proofs.Room.{latch-unheard, nothing-unheard}
+use Rattle.turn.specs.Turn.{withEvents, workOn}
+use Rattle.turn.specs.Inner.{OnBoard}
+use Rattle.recorded.specs.Asked.{twoLent}
+use Rattle.recorded.specs.Made.{inSix}
+use Rattle.recorded.specs.Inner.{turnedInSix}
+use Rattle.recorded.proofs.Room.{latch-unheard, nothing-unheard}
 use Rattle.runner.specs.Printed.{roomOf, saidOf}
 use Rattle.runner.specs.Inner.{toTell, Puts}
 use Rattle.runner.proofs.Ticks.{three-left, all-quiet, some-made}
@@ -94,29 +98,28 @@ work k = k .before .turn .given .0 .1 .0
 on-board : (k : Known) → channel k < 3
 on-board k = subst OnBoard (k .before .turn .given .1) (found k .turn-at .ensures .1)
 
--- what the work comes to, with its channel's record before it
-abbrev old : Known → Channel
-old k = channelAt (board (found k)) (channel k)
+-- what the work is, with the bytes that a trace lends
+abbrev Comes : Known → Work → Outcome → Type 0
+Comes k w made = inSix (workOn (board (found k)) (channel k) w twoLent 0) ≡ made
 
-abbrev Comes : Known → Work → WorkDone → Type 0
-Comes k w done = doneInSix (workOn (old k) (channel k) w (board (found k) .model) (board (found k) .defer) lent 0) ≡ done
-
-abbrev put-back : Known → WorkDone → Outcome
-put-back k done = workedOn (board (found k)) (channel k) done
-
-works : (k : Known) (w : Work) → work k ≡ w → (done : WorkDone) → Comes k w done
-    → (at₁ : ℕ) (out₁ : List ℕ) → Said (found k) (put-back k done) at₁ out₁ → Again (found k) (put-back k done) at₁ out₁
-works k w is done comes =
+works : (k : Known) (w : Work) → work k ≡ w → (made : Outcome) → Comes k w made
+    → (at₁ : ℕ) (out₁ : List ℕ) → Said (found k) made at₁ out₁ → Again (found k) made at₁ out₁
+works k w is made comes =
     let b = board (found k) in
-    next (found k) (put-back k done)
-    (ap (turnedInSix b) (k .before .turn .given .1) ∙ ap (λ (v : Work). turnedInSix b (OnChannel (channel k) v)) is ∙ ap (workedOn b (channel k)) comes)
+    next (found k) made (ap (turnedInSix b) (k .before .turn .given .1) ∙ ap (λ (v : Work). turnedInSix b (OnChannel (channel k) v)) is ∙ comes)
 
 -- a new record is the one that the work asks for: it may raise an event, or is not heard of
-as-raised : (k : Known) (asked new : Channel) → new ≡ asked → doneInSix (changed (channel k) (old k) asked lent 0) ≡ doneInSix (changed (channel k) (old k) new lent 0)
-as-raised k asked new is = ap (λ (d : Channel). doneInSix (changed (channel k) (old k) d lent 0)) (sym is)
+abbrev raising : Known → Channel → Outcome
+raising k d = inSix (settle (board (found k)) (channel k) d twoLent 0)
 
-as-unheard : (asked new : Channel) → new ≡ asked → doneInSix (unheard asked lent) ≡ doneInSix (unheard new lent)
-as-unheard asked new is = ap (λ (d : Channel). doneInSix (unheard d lent)) (sym is)
+as-raised : (k : Known) (asked new : Channel) → new ≡ asked → raising k asked ≡ raising k new
+as-raised k asked new is = ap (raising k) (sym is)
+
+abbrev unheard : Known → Channel → Outcome
+unheard k d = inSix (withEvents twoLent (accept done (withChannel (board (found k)) (channel k) d)))
+
+as-unheard : (k : Known) (asked new : Channel) → new ≡ asked → unheard k asked ≡ unheard k new
+as-unheard k asked new is = ap (unheard k) (sym is)
 
 -- a byte written to a data port
 abbrev writes : tie.After-slice-known2 Inv-loop μ-loop → tie.After-work Inv-loop μ-loop
@@ -126,7 +129,7 @@ loop-again : tie.Need-loop-again Inv-loop μ-loop
 loop-again c =
     let raised = c .before .before .before .before .before .before in
     let k = writes c .before .before in
-    works k _ (writes c .work .given .1) _ (as-raised k _ _ (raised .before .write-byte .ensures) ∙ raised .raise .ensures) _ _ (c .before .before .say .ensures)
+    works k _ (writes c .work .given .1) _ (as-raised k _ _ (raised .before .write-byte .ensures) ∙ sym (raised .raise .ensures (board (found k)) refl)) _ _ (c .before .before .say .ensures)
 
 -- a latch raises no event
 abbrev latches : tie.After-slice-known3 Inv-loop μ-loop → tie.After-enum-told Inv-loop μ-loop
@@ -135,7 +138,7 @@ latches c = c .before .before .before .before .before .before .before
 loop-again-2 : tie.Need-loop-again-2 Inv-loop μ-loop
 loop-again-2 c =
     let k = latches c .before .before in
-    works k _ (latches c .enum-told .given .1) _ (latch-unheard (channel k) (old k) _ (c .before .before .before .before .before .latch-count .ensures)) _ _ (c .before .before .say2 .ensures)
+    works k _ (latches c .enum-told .given .1) _ (latch-unheard (board (found k)) (channel k) _ (c .before .before .before .before .before .latch-count .ensures)) _ _ (c .before .before .say2 .ensures)
 
 -- a mode set
 abbrev sets-mode : tie.After-slice-known4 Inv-loop μ-loop → tie.After-work2 Inv-loop μ-loop
@@ -145,7 +148,7 @@ loop-again-3 : tie.Need-loop-again-3 Inv-loop μ-loop
 loop-again-3 c =
     let raised = c .before .before .before .before .before .before in
     let k = sets-mode c .before .before in
-    works k _ (sets-mode c .work2 .given .1) _ (as-raised k _ _ (raised .before .set-mode .ensures) ∙ raised .raise2 .ensures) _ _ (c .before .before .say3 .ensures)
+    works k _ (sets-mode c .work2 .given .1) _ (as-raised k _ _ (raised .before .set-mode .ensures) ∙ sym (raised .raise2 .ensures (board (found k)) refl)) _ _ (c .before .before .say3 .ensures)
 
 -- a level at a gate
 abbrev sets-gate : tie.After-slice-known5 Inv-loop μ-loop → tie.After-work3 Inv-loop μ-loop
@@ -155,7 +158,7 @@ loop-again-4 : tie.Need-loop-again-4 Inv-loop μ-loop
 loop-again-4 c =
     let raised = c .before .before .before .before .before .before in
     let k = sets-gate c .before .before in
-    works k _ (sets-gate c .work3 .given .1) _ (as-raised k _ _ (raised .before .set-gate .ensures) ∙ raised .raise3 .ensures) _ _ (c .before .before .say4 .ensures)
+    works k _ (sets-gate c .work3 .given .1) _ (as-raised k _ _ (raised .before .set-gate .ensures) ∙ sym (raised .raise3 .ensures (board (found k)) refl)) _ _ (c .before .before .say4 .ensures)
 
 -- a read
 abbrev reads : tie.After-slice-known6 Inv-loop μ-loop → tie.After-enum-told2 Inv-loop μ-loop
@@ -163,7 +166,9 @@ reads c = c .before .before .before .before .before .before .before .before
 
 loop-again-5 : tie.Need-loop-again-5 Inv-loop μ-loop
 loop-again-5 c =
-    works (reads c .before .before) _ (reads c .enum-told2 .given .1) _ (ap (λ (r : ByteRead). doneInSix (readDone r lent)) (sym (c .before .before .before .before .before .before .read-byte .ensures)))
+    let k = reads c .before .before in
+    works k _ (reads c .enum-told2 .given .1) _
+    (ap (λ (r : ByteRead). inSix (withEvents twoLent (readInto (board (found k)) (channel k) r))) (sym (c .before .before .before .before .before .before .read-byte .ensures)))
     _ _ (c .before .before .say5 .ensures)
 
 -- counts
@@ -172,7 +177,7 @@ counts c = c .before .before .before .before .before .before .before .before
 
 loop-again-6 : tie.Need-loop-again-6 Inv-loop μ-loop
 loop-again-6 c =
-    works (counts c .before .before) _ (counts c .work4 .given .1) _ (as-unheard _ _ (c .before .before .before .before .before .counts .ensures)) _ _ (c .before .before .say6 .ensures)
+    works (counts c .before .before) _ (counts c .work4 .given .1) _ (as-unheard (counts c .before .before) _ _ (c .before .before .before .before .before .counts .ensures)) _ _ (c .before .before .say6 .ensures)
 
 -- a load cycle
 abbrev cycles : tie.After-slice-known8 Inv-loop μ-loop → tie.After-enum-told3 Inv-loop μ-loop
@@ -180,7 +185,7 @@ cycles c = c .before .before .before .before .before .before .before
 
 loop-again-7 : tie.Need-loop-again-7 Inv-loop μ-loop
 loop-again-7 c =
-    works (cycles c .before .before) _ (cycles c .enum-told3 .given .1) _ (as-unheard _ _ (c .before .before .before .before .before .load-cycle .ensures)) _ _ (c .before .before .say7 .ensures)
+    works (cycles c .before .before) _ (cycles c .enum-told3 .given .1) _ (as-unheard (cycles c .before .before) _ _ (c .before .before .before .before .before .load-cycle .ensures)) _ _ (c .before .before .say7 .ensures)
 
 -- a catch-up or a run
 abbrev elapses : tie.After-slice-known9 Inv-loop μ-loop → tie.After-turn2 Inv-loop μ-loop
@@ -189,7 +194,7 @@ elapses c = c .before .before .before .before .before .before .before .before .b
 loop-again-8 : tie.Need-loop-again-8 Inv-loop μ-loop
 loop-again-8 c =
     let t = elapses c .before .before in
-    next t _ (ap (turnedInSix (board t)) (elapses c .turn2 .given .1) ∙ ap (λ (r : TimeDone). inSix (timedOn (board t) r lent)) (sym (c .before .before .before .before .before .before .before .elapse .ensures)))
+    next t _ (ap (turnedInSix (board t)) (elapses c .turn2 .given .1) ∙ ap (λ (o : Outcome). inSix (withEvents twoLent o)) (sym (c .before .before .before .before .before .before .before .elapse .ensures (board t) (record { divisor-is = refl; remainder-is = refl; warp-is = refl; defer-is = refl; owed-is = refl }))))
     _ _ (c .before .before .say8 .ensures)
 
 -- a reset
