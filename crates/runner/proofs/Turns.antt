@@ -14,7 +14,7 @@ use Rattle.text.proofs.Puts.{Wrote, and-then, put-fits, put-length}
 use Rattle.trace.specs.declared.operation.Operation.{Operation}
 use Rattle.trace.specs.declared.operation.Operation.the-variants as recorded
 use Rattle.trace.specs.Judgement.{Judgement, refusedBy, sound}
-use Rattle.trace.specs.Operation.{operationAt}
+use Rattle.trace.specs.Operation.{operationAt, operationIn}
 use Rattle.trace.specs.Trace.{operationsFrom}
 use Rattle.trace.specs.Inner.{soundness, operationsOf}
 use Rattle.trace.proofs.Found.{in-sound}
@@ -28,7 +28,7 @@ use Rattle.recorded.specs.Inner.{turnedInSix}
 use Rattle.recorded.proofs.Recorded.{turn-made}
 use Rattle.runner.specs.declared.Form.{Form}
 use Rattle.runner.specs.Printed.{roomOf, saidOf, toldFrom}
-use Rattle.runner.specs.Inner.{toTell, turnAt, Puts}
+use Rattle.runner.specs.Inner.{toTell, Puts}
 
 -- one operation more, behind the others
 told-then : (form : Form) (b : Board) (i : ℕ) (os : List Operation) (o : Operation)
@@ -65,7 +65,7 @@ module _ (trace : List ℕ) (first number : ℕ) (all : soundness (operationsFro
 
 -- the turn at an index comes to what the operation there makes of the board
 pub turn-at-made : (b : Board) (trace : List ℕ) (index : ℕ) (o : Operation) → operationAt trace index ≡ sound o
-    → make b o ≡ turnedInSix b (turnAt trace index (owes b))
+    → make b o ≡ turnedInSix b (turnOf (owes b) (operationIn trace index))
 turn-at-made b trace index o is = turn-made b o ∙ ap (λ (p : Operation). turnedInSix b (turnOf (owes b) p)) (sym (in-sound trace index o is))
 
 -- the board and the lent bytes after the first j operations of a list

@@ -1,24 +1,16 @@
 -- Not for readers: what the contracts of private functions and the proofs speak of. `replay`, `replay_into` and `answers_into` are promised without it.
 use Prim.Native.Nat.{ℕ, _≤_}
-use mathlib.Core.Bool.{Bool}
 use mathlib.Core.List.{List}
 use mathlib.Core.Path.{_≡_}
 use lib.ListN.{length}
 use Rattle.text.specs.Put.{put, answered}
 use Rattle.trace.specs.declared.operation.Operation.{Operation}
-use Rattle.trace.specs.Operation.{operationIn}
 use Rattle.trace.specs.Trace.{operationsFrom}
 use Rattle.trace.specs.Inner.{operationsOf}
-use Rattle.turn.specs.declared.finding.Turn.{Turn}
-use Rattle.recorded.specs.Finding.{turnOf}
 
 -- the operations to tell of: from an index on, as many as are asked for
 abbrev pub toTell : List ℕ → ℕ → ℕ → List Operation
 toTell trace first number = operationsOf (operationsFrom trace first number)
-
--- the turn of the operation at an index of a sound trace, on a board that owes ticks or owes none
-abbrev pub turnAt : List ℕ → ℕ → Bool → Turn
-turnAt trace index owing = turnOf owing (operationIn trace index)
 
 -- a text put at a place of the lent bytes, and no longer than its room
 pub record Puts (text : List ℕ) (room : ℕ) (bytes : List ℕ) (place next : ℕ) (after : List ℕ) : Type 0 where

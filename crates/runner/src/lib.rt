@@ -30,10 +30,12 @@ ghost use Rattle.line.specs.Line.{lineRoom};
 ghost use Rattle.text.specs.Put.{put, answered};
 ghost use Rattle.trace.specs.Judgement.{sound};
 ghost use Rattle.trace.specs.Trace.{operationsFrom, traceOf};
+ghost use Rattle.trace.specs.Operation.{operationIn};
 ghost use Rattle.trace.specs.Inner.{soundness};
 ghost use Rattle.turn.specs.Inner.{Finds};
+ghost use Rattle.recorded.specs.Finding.{turnOf};
 ghost use Rattle.runner.specs.Printed.{said, roomOf, toldFrom, printedTrace, printed, Prints};
-ghost use Rattle.runner.specs.Inner.{toTell, turnAt, Puts};
+ghost use Rattle.runner.specs.Inner.{toTell, Puts};
 ghost use Rattle.io.specs.Counts.{Counts};
 
 // Room for what is printed of every trace: a line for the head, for each operation and for the end.
@@ -98,7 +100,7 @@ fn all_made(run: u32) -> Answer
 
 // The turn of the operation at an index, on a board that owes ticks or owes none.
 fn turn_at(trace: &[u8], index: u32, owing: bool) -> Turn
-    ensures { λ r. ⌜ Finds (turnAt (now (trace .entry)) index owing) r ⌝ }
+    ensures { λ r. ⌜ Finds (turnOf owing (operationIn (now (trace .entry)) index)) r ⌝ }
 {
     recorded::turn_of(trace::operation_in(trace, index), owing)
 }

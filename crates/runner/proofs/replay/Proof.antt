@@ -50,11 +50,7 @@ pub replay-spec : {M : Type 1} → statement M
 replay-spec =
     tie.close
     (tie.spec
-    (λ c κs. search needs)
-    (λ c. search needs)
-    (λ c κs. search needs)
-    put-line-requires
-    (λ c. search needs)
-    replay-sound-requires
+    (λ c κs. search needs) (λ c. search needs) (λ c κs. search needs) put-line-requires
+    (λ c. search needs) replay-sound-requires
     returns
     returns-2)

@@ -71,11 +71,8 @@ pub replay-sound-spec : {M : Type 1} → statement M
 replay-sound-spec =
     tie.close
     (tie.spec
-    (λ c κs. search needs)
-    (λ c κs. search needs)
-    put-line-requires
+    (λ c κs. search needs) (λ c κs. search needs) put-line-requires
     tell-requires
-    (λ c κs. search needs)
-    put-line-requires-2
+    (λ c κs. search needs) put-line-requires-2
     same-length
     returns)

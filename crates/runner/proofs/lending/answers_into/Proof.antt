@@ -61,14 +61,7 @@ pub answers-into-spec : {M : Type 1} → statement M
 answers-into-spec =
     tie.close
     (tie.spec
-    (λ c κs. search needs)
-    (λ c. search needs)
-    (λ c. search needs)
-    (λ c. search needs)
-    (λ c. search needs)
-    returns
-    (λ c κs. search needs)
-    tell-requires
+    (λ c κs. search needs) (λ c. search needs) (λ c. search needs) (λ c. search needs) (λ c. search needs) returns
+    (λ c κs. search needs) tell-requires
     returns-2
-    (λ c. search needs)
-    returns-3)
+    (λ c. search needs) returns-3)

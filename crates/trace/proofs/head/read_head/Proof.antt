@@ -85,25 +85,12 @@ pub read-head-spec : {M : Type 1} → statement M
 read-head-spec =
     tie.close
     (tie.spec
-    (λ c κs. search needs)
-    returns
-    (λ c κs. search needs)
-    (λ c κs. search needs)
-    returns-2
-    (λ c κs. search needs)
-    returns-3
-    (λ c κs. search needs)
-    (λ c κs. search needs)
-    returns-4
-    (λ c κs. search needs)
-    returns-5
-    (λ c κs. search needs)
-    (λ c κs. search needs)
-    returns-6
-    (λ c κs. search needs)
-    returns-7
-    (λ c κs. search needs)
-    (λ c κs. search needs)
-    returns-8
-    (λ c κs. search needs)
-    returns-9)
+    (λ c κs. search needs) returns
+    (λ c κs. search needs) (λ c κs. search needs) returns-2
+    (λ c κs. search needs) returns-3
+    (λ c κs. search needs) (λ c κs. search needs) returns-4
+    (λ c κs. search needs) returns-5
+    (λ c κs. search needs) (λ c κs. search needs) returns-6
+    (λ c κs. search needs) returns-7
+    (λ c κs. search needs) (λ c κs. search needs) returns-8
+    (λ c κs. search needs) returns-9)

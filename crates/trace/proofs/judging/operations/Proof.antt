@@ -58,13 +58,7 @@ operations-spec =
     Inv-loop
     μ-loop
     loop-holds
-    (λ c κs. search needs)
-    (λ c. search needs)
-    (λ c. search needs)
-    loop-less
+    (λ c κs. search needs) (λ c. search needs) (λ c. search needs) loop-less
     loop-again
-    (λ c. search needs)
-    returns
-    (λ c κs. search needs)
-    (λ c κs. search needs)
-    returns-2)
+    (λ c. search needs) returns
+    (λ c κs. search needs) (λ c κs. search needs) returns-2)
