@@ -13,7 +13,7 @@ ghost use Rattle.encoding.specs.Front.{putFront};
 ghost use Rattle.pit.specs.Channel.{outcomeOf, channelAnswerBytes, recordBytes, Settles, freshStatus, freshAfter};
 
 // A level, then three numbers of two bytes.
-const CHANNEL_ANSWER_SIZE: usize = 1 + 2 + 2 + 2;
+pub const CHANNEL_ANSWER_SIZE: usize = 1 + 2 + 2 + 2;
 
 // What an operation comes to, before anything is stored.
 pub enum Outcome {
