@@ -39,7 +39,7 @@ use Rattle.ports.specs.Writes.{controlRegisterWrite, writeTo, writePort}
 use Rattle.owed.specs.Worked.{Work, report, workOff}
 use Rattle.step.specs.Operation.{Operation, WritePort, ReadPort, SetChannelGate, Counts, LoadCycle, CatchUp, Run, Reset, GetOutputState, GetChannelCount, DoesChannelRetrigger, IsDirty, GetTimerAccum, WorkOff, kindOf, lent}
 use Rattle.step.specs.Step.{step}
-use Rattle.step.specs.Time.{ticksIn, ifAccepted, taken, isTimeCall}
+use Rattle.step.specs.Time.{ticksIn, ifAccepted, systemTaken, isTimeCall}
 use Rattle.step.specs.Owed.{madeIn, changesOwed}
 use Rattle.step.proofs.Owing.{by-owed, by-timely}
 use Rattle.step.proofs.Working.{Underway, neither, worked-on}
@@ -147,7 +147,7 @@ module _ (b : Board) (P : List ℕ → ℕ → Outcome → Type 0)
         (λ since. yields defer none since))
 
     -- every operation: of ticks worked off and of time is asked only where it is such a call
-    pub every-asked : (o : Operation) → (kindOf o .works ≡ true → Works) → ((given warp : ℕ) → Leaves o given warp → Yields given warp) → P (lent o) (taken b o) (step b o)
+    pub every-asked : (o : Operation) → (kindOf o .works ≡ true → Works) → ((given warp : ℕ) → Leaves o given warp → Yields given warp) → P (lent o) (systemTaken b o) (step b o)
     unfolding writePort readPort loadCycle catchUp run getOutputState getChannelCount doesChannelRetrigger isDirty
     every-asked (WritePort port byte events place) works yields = write-every (portOf port) byte events place
     every-asked (ReadPort port) works yields = read-every (portOf port)
@@ -165,14 +165,14 @@ module _ (b : Board) (P : List ℕ → ℕ → Outcome → Type 0)
     every-asked (WorkOff stated events place) works yields = work-every (works refl) stated events place
 
     -- every operation but catch-up, run and the call that works ticks off
-    pub every-plain : (o : Operation) → changesOwed o ≡ false → P (lent o) (taken b o) (step b o)
+    pub every-plain : (o : Operation) → changesOwed o ≡ false → P (lent o) (systemTaken b o) (step b o)
     every-plain o other =
         let both = neither (kindOf o .timed) (kindOf o .works) other in
         every-asked o (λ is. absurd (true≢false (sym is ∙ both .1))) (λ given warp call. absurd (true≢false (sym (leaves-timed o given warp call) ∙ both .0)))
 
     -- every operation but catch-up and run
-    pub every-other : Works → (o : Operation) → isTimeCall o ≡ false → P (lent o) (taken b o) (step b o)
+    pub every-other : Works → (o : Operation) → isTimeCall o ≡ false → P (lent o) (systemTaken b o) (step b o)
     every-other works o other = every-asked o (λ is. works) (λ given warp call. absurd (true≢false (sym (leaves-timed o given warp call) ∙ other)))
 
-    pub every-step : Works → ((given warp : ℕ) → Yields given warp) → (o : Operation) → P (lent o) (taken b o) (step b o)
+    pub every-step : Works → ((given warp : ℕ) → Yields given warp) → (o : Operation) → P (lent o) (systemTaken b o) (step b o)
     every-step works yields o = every-asked o (λ is. works) (λ given warp call. yields given warp)

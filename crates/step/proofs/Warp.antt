@@ -14,13 +14,13 @@ use Rattle.clock.specs.Clock.{elapsed, yielding, run}
 use Rattle.clock.proofs.Tests.{by-time}
 use Rattle.step.specs.Operation.{Operation, Run}
 use Rattle.step.specs.Step.{step, steps}
-use Rattle.step.specs.Time.{ifAccepted, taken, allTaken, NoRun}
+use Rattle.step.specs.Time.{ifAccepted, systemTaken, allTaken, NoRun}
 use Rattle.refusal.proofs.Apart.{refused-not}
 use Rattle.step.proofs.Every.{every-asked}
 use Rattle.step.proofs.Owing.{by-timely}
 
 -- an accepted catch-up takes in what lies between the old warp and the new; a refused one and the others take in nothing and leave the warp
-step-warp : (b : Board) (o : Operation) → ((given : ℕ) → o ≡ Run given → ⊥) → taken b o + b .warp .0 ≡ step b o .board .warp .0
+step-warp : (b : Board) (o : Operation) → ((given : ℕ) → o ≡ Run given → ⊥) → systemTaken b o + b .warp .0 ≡ step b o .board .warp .0
 step-warp b o no-run =
     every-asked b (λ events ticks outcome. ticks + b .warp .0 ≡ outcome .board .warp .0)
     (λ events number. omega arith)
@@ -35,14 +35,14 @@ sums x y w v u first later = omega arith
 pub warp-rises : (b : Board) (os : List Operation) → NoRun os → allTaken b os + b .warp .0 ≡ steps b os .warp .0
 warp-rises b [] none = omega arith
 warp-rises b (o ∷ os) none =
-    sums (taken b o) (allTaken (step b o .board) os) (b .warp .0) (step b o .board .warp .0) _ (step-warp b o (none .0)) (warp-rises (step b o .board) os (none .1))
+    sums (systemTaken b o) (allTaken (step b o .board) os) (b .warp .0) (step b o .board .warp .0) _ (step-warp b o (none .0)) (warp-rises (step b o .board) os (none .1))
 
 abbrev Takes : Board → ℕ → Value → Outcome → Type 0
 Takes b given value o = o .reply ≡ accepted value → (ifAccepted (o .reply) (given - b .warp .0) + b .warp .0 ≡ given) × (o .board .warp .0 ≡ 0)
 
 -- "run sets the warp to 0"
 pub run-takes : (b : Board) (given : ℕ) (value : Value) → step b (Run given) .reply ≡ accepted value
-    → (taken b (Run given) + b .warp .0 ≡ given) × (step b (Run given) .board .warp .0 ≡ 0)
+    → (systemTaken b (Run given) + b .warp .0 ≡ given) × (step b (Run given) .board .warp .0 ≡ 0)
 unfolding run
 run-takes b given value =
     by-timely (Takes b given value) b (yielding b 0 (b .defer) (elapsed b given))
@@ -55,11 +55,11 @@ run-takes b given value =
 
 -- an instruction, from a board whose warp is 0, as a run leaves it: whatever is done in between, an accepted run at its end brings what was taken in to its ticks
 pub instruction : (b : Board) (os : List Operation) (given : ℕ) (value : Value) → b .warp .0 ≡ 0 → NoRun os → step (steps b os) (Run given) .reply ≡ accepted value
-    → allTaken b os + taken (steps b os) (Run given) ≡ given
+    → allTaken b os + systemTaken (steps b os) (Run given) ≡ given
 instruction b os given value none no-run e =
     let rose = warp-rises b os no-run in
     let last = run-takes (steps b os) given value e .0 in
-    all-of (allTaken b os) (taken (steps b os) (Run given)) (b .warp .0) (steps b os .warp .0) given none rose last
+    all-of (allTaken b os) (systemTaken (steps b os) (Run given)) (b .warp .0) (steps b os .warp .0) given none rose last
   where
     all-of : (x y w v u : ℕ) → w ≡ 0 → x + w ≡ v → y + v ≡ u → x + y ≡ u
     all-of x y w v u z first later = omega arith

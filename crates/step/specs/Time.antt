@@ -44,8 +44,8 @@ ifAccepted (refused number) n = 0
 ifAccepted (accepted value) n = n
 
 -- the system ticks that a call takes in: "ticks minus warp", the warp being the board's when the call comes
-abbrev pub taken : Board → Operation → ℕ
-taken b o = cond (kindOf o .timed) (ifAccepted (step b o .reply) (kindOf o .given - b .warp .0)) 0
+abbrev pub systemTaken : Board → Operation → ℕ
+systemTaken b o = cond (kindOf o .timed) (ifAccepted (step b o .reply) (kindOf o .given - b .warp .0)) 0
 
 -- "all timer ticks yielded"
 abbrev pub allYielded : Board → List Operation → ℕ
@@ -55,7 +55,7 @@ allYielded b (o ∷ os) = yielded (step b o .reply) + allYielded (step b o .boar
 -- "all (ticks - warp)"
 abbrev pub allTaken : Board → List Operation → ℕ
 allTaken b [] = 0
-allTaken b (o ∷ os) = taken b o + allTaken (step b o .board) os
+allTaken b (o ∷ os) = systemTaken b o + allTaken (step b o .board) os
 
 -- catch-up and run
 abbrev pub isTimeCall : Operation → Bool
