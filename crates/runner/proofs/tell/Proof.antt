@@ -114,19 +114,19 @@ loop-again-4 c =
 loop-again-5 : tie.Need-loop-again-5 Inv-loop μ-loop
 loop-again-5 c =
     let t = c .before .before .before .before .before .before .before .before .before .before .before .before .before in
-    next t _ (worked t _ _ (c .before .before .before .before .before .before .before .before .before .before .before .turn .given .1) _ (c .before .before .before .before .before .before .before .before .enum-told2 .given .1) _ (ap (λ (r : ByteRead). inSix (withEvents twoLent (readInto (turn t .loop .b) _ r))) (sym (c .before .before .before .before .before .before .read-byte .ensures)))) _ _ (c .before .before .say5 .ensures)
+    next t _ (worked t _ _ (c .before .before .before .before .before .before .before .before .before .before .before .turn .given .1) _ (c .before .before .before .before .before .before .before .before .enum-told2 .given .1) _ (ap (λ (r : ByteRead). inSix (withEvents twoLent (readInto (turn t .loop .b) (c .before .before .before .before .before .before .before .before .before .before .before .turn .given .0 .0) r))) (sym (c .before .before .before .before .before .before .read-byte .ensures)))) _ _ (c .before .before .say5 .ensures)
 
 -- counts
 loop-again-6 : tie.Need-loop-again-6 Inv-loop μ-loop
 loop-again-6 c =
     let t = c .before .before .before .before .before .before .before .before .before .before .before .before .before in
-    next t _ (worked t _ _ (c .before .before .before .before .before .before .before .before .before .before .before .turn .given .1) _ (c .before .before .before .before .before .before .before .before .work4 .given .1) _ (ap (λ (d : Channel). inSix (withEvents twoLent (accept done (withChannel (turn t .loop .b) _ d)))) (sym (c .before .before .before .before .before .counts .ensures)))) _ _ (c .before .before .say6 .ensures)
+    next t _ (worked t _ _ (c .before .before .before .before .before .before .before .before .before .before .before .turn .given .1) _ (c .before .before .before .before .before .before .before .before .work4 .given .1) _ (ap (λ (d : Channel). inSix (withEvents twoLent (accept done (withChannel (turn t .loop .b) (c .before .before .before .before .before .before .before .before .before .before .before .turn .given .0 .0) d)))) (sym (c .before .before .before .before .before .counts .ensures)))) _ _ (c .before .before .say6 .ensures)
 
 -- a load cycle
 loop-again-7 : tie.Need-loop-again-7 Inv-loop μ-loop
 loop-again-7 c =
     let t = c .before .before .before .before .before .before .before .before .before .before .before .before in
-    next t _ (worked t _ _ (c .before .before .before .before .before .before .before .before .before .before .turn .given .1) _ (c .before .before .before .before .before .before .before .enum-told3 .given .1) _ (ap (λ (d : Channel). inSix (withEvents twoLent (accept done (withChannel (turn t .loop .b) _ d)))) (sym (c .before .before .before .before .before .load-cycle .ensures)))) _ _ (c .before .before .say7 .ensures)
+    next t _ (worked t _ _ (c .before .before .before .before .before .before .before .before .before .before .turn .given .1) _ (c .before .before .before .before .before .before .before .enum-told3 .given .1) _ (ap (λ (d : Channel). inSix (withEvents twoLent (accept done (withChannel (turn t .loop .b) (c .before .before .before .before .before .before .before .before .before .before .turn .given .0 .0) d)))) (sym (c .before .before .before .before .before .load-cycle .ensures)))) _ _ (c .before .before .say7 .ensures)
 
 -- a catch-up or a run
 loop-again-8 : tie.Need-loop-again-8 Inv-loop μ-loop
