@@ -43,7 +43,9 @@ pub fn part_of(operation: Operation, owing: bool) -> Part
         Operation::Counts(channel, number) => {
             Part::Turned(finding::counts_turn(channel as usize, number))
         }
-        Operation::LoadCycle(channel) => { Part::Turned(finding::load_cycle_turn(channel as usize)) }
+        Operation::LoadCycle(channel) => {
+            Part::Turned(finding::load_cycle_turn(channel as usize))
+        }
         Operation::CatchUp(ticks) => Part::Turned(finding::catch_up_turn(ticks)),
         Operation::Run(ticks) => Part::Turned(finding::run_turn(ticks)),
         Operation::Reset => Part::Turned(finding::reset_turn(owing)),
