@@ -80,7 +80,7 @@ fn counts(number: u32) {
     say(b": ");
     let mut start = fresh();
     start.channels[0].control.bcd_mode = true;
-    let r = start.counts(0, number);
+    let r = calls::counts(start, 0, number);
     let answer = r.answer;
     say_answer(answer);
     let b = r.board;
@@ -92,16 +92,16 @@ fn counts(number: u32) {
 
 // A catch-up of 100 first: the warp is then 100, and 4 ticks are left beyond 8 times 12. The 8 are worked off, or a run would be refused for them.
 fn warped() -> Board {
-    let r = clock::catch_up(fresh(), SystemTicks(100));
+    let r = calls::catch_up(fresh(), SystemTicks(100));
     let mut events = [OLD_BYTE; 6];
-    let worked = owed::work_off(r.board, 8, &mut events, 0);
+    let worked = calls::work_off(r.board, 8, &mut events, 0);
     worked.board
 }
 
 fn run(b: Board, ticks: u32) {
     say_number(b"run ", ticks);
     say(b": ");
-    let r = clock::run(b, SystemTicks(ticks));
+    let r = calls::run(b, SystemTicks(ticks));
     let answer = r.answer;
     say_answer(answer);
     let after = r.board;
@@ -133,7 +133,7 @@ fn control(name: &[u8], byte: u8, place: usize) {
     say_place(b" at place ", place);
     say(b" of 3: ");
     let mut events = [OLD_BYTE; 3];
-    let r = ports::write_port(fresh(), 0x43, byte, &mut events, place);
+    let r = calls::write_port(fresh(), 0x43, byte, &mut events, place);
     let answer = r.answer;
     say_answer(answer);
     let b = r.board;
@@ -147,9 +147,9 @@ fn write_owing(port: u16, place: usize) {
     say_number(b"write to port ", port as u32);
     say_place(b" at place ", place);
     say(b" of 3, a tick owed: ");
-    let owing = clock::run(fresh(), SystemTicks(12));
+    let owing = calls::run(fresh(), SystemTicks(12));
     let mut events = [OLD_BYTE; 3];
-    let r = ports::write_port(owing.board, port, MODE_2, &mut events, place);
+    let r = calls::write_port(owing.board, port, MODE_2, &mut events, place);
     let answer = r.answer;
     say_answer(answer);
     say(b"\n");
@@ -158,10 +158,10 @@ fn write_owing(port: u16, place: usize) {
 // Channel 0 in mode 2 with a count of 2, whose output changes with every tick after the first; and so many ticks owed.
 fn pulsing(owed: u32) -> Board {
     let mut events = [OLD_BYTE; 2];
-    let set = ports::write_port(fresh(), 0x43, MODE_2, &mut events, 0);
-    let low = ports::write_port(set.board, 0x40, 2, &mut events, 0);
-    let high = ports::write_port(low.board, 0x40, 0, &mut events, 0);
-    let r = clock::run(high.board, SystemTicks(12 * (owed % 100000)));
+    let set = calls::write_port(fresh(), 0x43, MODE_2, &mut events, 0);
+    let low = calls::write_port(set.board, 0x40, 2, &mut events, 0);
+    let high = calls::write_port(low.board, 0x40, 0, &mut events, 0);
+    let r = calls::run(high.board, SystemTicks(12 * (owed % 100000)));
     r.board
 }
 
@@ -171,7 +171,7 @@ fn work(b: Board, stated: u32, place: usize) {
     say_place(b" at place ", place);
     say(b" of 3: ");
     let mut events = [OLD_BYTE; 3];
-    let r = owed::work_off(b, stated, &mut events, place);
+    let r = calls::work_off(b, stated, &mut events, place);
     let answer = r.answer;
     say_answer(answer);
     let after = r.board;
@@ -183,7 +183,7 @@ fn work(b: Board, stated: u32, place: usize) {
 }
 
 fn idling() -> Board {
-    let r = clock::run(fresh(), SystemTicks(786444));
+    let r = calls::run(fresh(), SystemTicks(786444));
     r.board
 }
 

@@ -51,7 +51,16 @@ fn elapse(b: Board, given: SystemTicks, next: SystemTicks, defers: bool) -> Answ
     let remainder = b.remainder;
     let warp = b.warp;
     let owed = b.owed;
-    let elapsed = clock::elapse(given, next, defers, b.divisor, remainder, warp, b.defer, owed);
+    let elapsed = clock::elapse(
+        given,
+        next,
+        defers,
+        b.divisor,
+        remainder,
+        warp,
+        b.defer,
+        owed,
+    );
     let answer = elapsed.answer;
     let left = elapsed.remainder;
     let since = elapsed.warp;

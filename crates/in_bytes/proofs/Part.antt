@@ -7,7 +7,8 @@ use lib.Dec.{ltb}
 use Rattle.board.specs.declared.Board.{Board}
 use Rattle.board.specs.Outcome.{Outcome, refuse}
 use Rattle.board.specs.Queries.{getOutputState, getChannelCount, doesChannelRetrigger, isDirty}
-use Rattle.turn.specs.Turn.{owes, withEvents}
+use Rattle.turn.specs.Inner.{owes}
+use Rattle.turn.specs.Turn.{withEvents}
 use Rattle.turn.proofs.Turn.{write-is, gate-is, read-is, counts-is, load-cycle-is, catch-up-is, run-is, reset-is}
 use Rattle.board_operation.specs.declared.Operation.{Operation}
 use Rattle.board_operation.specs.declared.Operation.the-variants.{WritePort, ReadPort, SetChannelGate, Counts, LoadCycle, CatchUp, Run, Reset, GetOutputState, GetChannelCount, DoesChannelRetrigger, IsDirty, GetTimerAccum, WorkOff}

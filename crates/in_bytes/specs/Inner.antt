@@ -16,7 +16,8 @@ use Rattle.board.specs.Queries.{getTimerAccum}
 use Rattle.ports.specs.Port.{portOf}
 use Rattle.turn.specs.declared.finding.Turn.the-variants as turn
 use Rattle.turn.specs.Finding.{refuse, writeTurn, readTurn, gateTurn, countsTurn, loadCycleTurn, catchUpTurn, runTurn, resetTurn}
-use Rattle.turn.specs.Turn.{turned, OnBoard}
+use Rattle.turn.specs.Inner.{OnBoard}
+use Rattle.turn.specs.Turn.{turned}
 use Rattle.board_operation.specs.declared.Operation.{Operation}
 use Rattle.board_operation.specs.declared.Operation.the-variants.{WritePort, ReadPort, SetChannelGate, Counts, LoadCycle, CatchUp, Run, Reset, GetOutputState, GetChannelCount, DoesChannelRetrigger, IsDirty, GetTimerAccum, WorkOff}
 use Rattle.board_operation.specs.declared.answering.Numbers.{Numbers}

@@ -38,10 +38,14 @@ pub fn part_of(operation: Operation, owing: bool) -> Part
         Operation::WritePort(port, byte) => { Part::Turned(finding::write_turn(port, byte, owing)) }
         Operation::ReadPort(port) => Part::Turned(finding::read_turn(port)),
         Operation::SetChannelGate(channel, level) => {
-            Part::Turned(finding::gate_turn(channel, level, owing))
+            Part::Turned(finding::gate_turn(channel as usize, level, owing))
         }
-        Operation::Counts(channel, number) => Part::Turned(finding::counts_turn(channel, number)),
-        Operation::LoadCycle(channel) => Part::Turned(finding::load_cycle_turn(channel)),
+        Operation::Counts(channel, number) => {
+            Part::Turned(finding::counts_turn(channel as usize, number))
+        }
+        Operation::LoadCycle(channel) => {
+            Part::Turned(finding::load_cycle_turn(channel as usize))
+        }
         Operation::CatchUp(ticks) => Part::Turned(finding::catch_up_turn(ticks)),
         Operation::Run(ticks) => Part::Turned(finding::run_turn(ticks)),
         Operation::Reset => Part::Turned(finding::reset_turn(owing)),

@@ -2,7 +2,7 @@
 // worked off, the three channels and the owed ticks.
 //
 // The parts stand here, taken out of the bytes and put back. finding.rt finds the part that an operation is about, working.rt does the operation. The rules themselves are those of
-// `turn` and `owed`, which know nothing of bytes.
+// `turn`, `clock`, `ports` and `owed`, which know nothing of bytes.
 pub mod finding;
 pub mod working;
 

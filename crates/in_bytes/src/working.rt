@@ -27,7 +27,8 @@ use turn::finding::Work;
 ghost use mathlib.Core.List.{List};
 ghost use mathlib.Core.Path.{_≡_};
 ghost use Prim.Native.Nat.{ℕ, _<_};
-ghost use Rattle.turn.specs.Turn.{turned, OnBoard};
+ghost use Rattle.turn.specs.Turn.{turned};
+ghost use Rattle.turn.specs.Inner.{OnBoard};
 ghost use Rattle.board_operation.specs.Made.{operate};
 ghost use Rattle.board_encoding.specs.Loaded.{boardIn, HoldsBoard};
 ghost use Rattle.in_bytes.specs.Called.{calling, call};
@@ -73,7 +74,7 @@ fn elapse(bytes: &mut [u8], given: SystemTicks, next: SystemTicks, defers: bool)
     let warp = warp_in(bytes);
     let defer = defer_in(bytes);
     let owed = owed_in(bytes);
-    let elapsed = turn::elapse(given, next, defers, divisor, remainder, warp, defer, owed);
+    let elapsed = clock::elapse(given, next, defers, divisor, remainder, warp, defer, owed);
     let answer = elapsed.answer;
     let left = elapsed.remainder;
     let since = elapsed.warp;
@@ -125,7 +126,7 @@ fn turn_in(bytes: &mut [u8], turn: Turn, events: &mut [u8], place: usize) -> Num
         Turn::Elapse(given, next, defers) => elapse(bytes, given, next, defers),
         Turn::Reset => reset(bytes),
         Turn::WorkOff(stated) => work_off(bytes, stated, events, place),
-        Turn::Untouched => numbers_of(turn::untouched(events, place)),
+        Turn::Untouched => numbers_of(ports::untouched(events, place)),
         Turn::Say(answer) => numbers_of(answer),
     }
 }

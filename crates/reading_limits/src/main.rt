@@ -42,7 +42,7 @@ fn fresh() -> Board {
 // Two event bytes are lent, so a place of 3 is refused and a place of 0 is not.
 fn write_at(b: Board, port: u16, byte: u8, place: usize) -> Board {
     let mut events = [0u8; 2];
-    let r = ports::write_port(b, port, byte, &mut events, place);
+    let r = calls::write_port(b, port, byte, &mut events, place);
     r.board
 }
 
@@ -52,30 +52,30 @@ fn write(b: Board, port: u16, byte: u8) -> Board {
 
 // A word to the data port, and the load cycle that moves it.
 fn load(b: Board, low: u8, high: u8) -> Board {
-    let r = write(write(b, DATA, low), DATA, high).load_cycle(0);
+    let r = calls::load_cycle(write(write(b, DATA, low), DATA, high), 0);
     r.board
 }
 
 fn counts(b: Board, number: u32) -> Board {
-    let r = b.counts(0, number);
+    let r = calls::counts(b, 0, number);
     r.board
 }
 
 fn reset(b: Board) -> Board {
-    let r = b.reset();
+    let r = calls::reset(b);
     r.board
 }
 
 // A tick that is owed: twelve system ticks have passed.
 fn owing(b: Board) -> Board {
-    let r = clock::run(b, SystemTicks(12));
+    let r = calls::run(b, SystemTicks(12));
     r.board
 }
 
 // A tick made.
 fn tick(b: Board) -> Board {
     let mut events = [0u8; 6];
-    let r = owed::work_off(owing(b), 1, &mut events, 0);
+    let r = calls::work_off(owing(b), 1, &mut events, 0);
     r.board
 }
 
@@ -87,7 +87,7 @@ fn byte_of(answer: Answer) -> u8 {
 }
 
 fn read(b: Board) -> Got {
-    let r = ports::read_port(b, DATA);
+    let r = calls::read_port(b, DATA);
     let answer = r.answer;
     let board = r.board;
     Got {

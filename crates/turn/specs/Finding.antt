@@ -1,5 +1,5 @@
--- The turn of an operation: its port or channel found, and what is refused without a look at the board, but for whether it owes ticks, refused. Every call goes by
--- them: by value, in a trace and of a host.
+-- The turn of an operation: its port or channel found, and what is refused without a look at the board, but for whether it owes ticks, refused. Every call is found
+-- so: by value, in a trace and of a host.
 use Prim.Native.Nat.{ℕ}
 use mathlib.Core.Bool.{Bool, true, false, cond}
 use lib.Dec.{ltb}

@@ -1,8 +1,10 @@
 -- `in_bytes::working::elapse` meets its contract. Assumes nothing.
-use mathlib.Core.Path.{ap, _∙_}
+use mathlib.Core.Path.{sym, ap, _∙_}
 use denote.Ref.{now}
+use Rattle.time.specs.declared.SystemTicks.{SystemTicks}
+use Rattle.time.specs.declared.TimerTicks.{TimerTicks}
 use Rattle.board_encoding.specs.Loaded.{boardIn}
-use Rattle.turn.specs.Turn.{timeAfter, timedOn}
+use Rattle.turn.specs.Turn.{withEvents}
 use Rattle.in_bytes.specs.Inner.{told, written}
 use borrow.Author.Needs.{needs}
 use Rattle.in_bytes.proofs.working.elapse.Statement.{statement}
@@ -10,10 +12,18 @@ use Rattle.in_bytes.proofs.working.elapse.Tie as tie
 
 returns : tie.Need-returns
 returns c =
-    let a = c .before .before .before .before .before .before .before .before .before .before .before .before .before .before .before .before .before .before .before .before .args in
+    let e = c .before .before .before .before .before .before .before .before in
+    let a = e .before .before .before .before .before .before .before .before .before .before .before .before .args in
     let board = boardIn (now (a .bytes)) in
-    let done = c .before .before .before .before .before .before .before .before .elapse .ensures ∙ (λ i. timeAfter (a .given .0) (a .next .0) (a .defers) (c .before .before .before .before .before .before .before .before .before .before .before .before .before .before .before .before .before .divisor-in .ensures i) (c .before .before .before .before .before .before .before .before .before .before .before .before .before .before .before .remainder-in .ensures i .0) (c .before .before .before .before .before .before .before .before .before .before .before .before .before .warp-in .ensures i .0) (c .before .before .before .before .before .before .before .before .before .before .before .defer-in .ensures i) (c .before .before .before .before .before .before .before .before .before .owed-in .ensures i .0)) in
-    λ events place. (λ i. told (c .numbers-of .ensures i) (c .before .before .before .put-time .ensures i) events) ∙ ap (λ t. written (timedOn board t events) (now (a .bytes))) done
+    let done = e .elapse .ensures board
+    (record {
+      divisor-is = sym (e .before .before .before .before .before .before .before .before .before .divisor-in .ensures);
+      remainder-is = ap (λ (t : SystemTicks). t .0) (sym (e .before .before .before .before .before .before .before .remainder-in .ensures));
+      warp-is = ap (λ (t : SystemTicks). t .0) (sym (e .before .before .before .before .before .warp-in .ensures));
+      defer-is = sym (e .before .before .before .defer-in .ensures);
+      owed-is = ap (λ (t : TimerTicks). t .0) (sym (e .before .owed-in .ensures));
+    }) in
+    λ events place. (λ i. told (c .numbers-of .ensures i) (c .before .before .before .put-time .ensures i) events) ∙ ap (λ o. written (withEvents events o) (now (a .bytes))) done
 
 pub elapse-spec : {M : Type 1} → statement M
 elapse-spec =

@@ -2,7 +2,8 @@
 use mathlib.Core.Path.{sym, ap, subst, _∙_}
 use native.Mathlib.Omega.{arith}
 use denote.Ref.{now}
-use Rattle.turn.specs.Turn.{turned, OnBoard}
+use Rattle.turn.specs.Inner.{OnBoard}
+use Rattle.turn.specs.Turn.{turned}
 use Rattle.board_encoding.specs.Loaded.{boardIn}
 use Rattle.in_bytes.proofs.Standing.{kept}
 use Rattle.in_bytes.specs.Inner.{told, written}
