@@ -1,13 +1,13 @@
--- The channels of a board: a record put at its place is found there, the others stay where they are, and of two put there the later stands; and what a call
--- with refusal 2 comes to. Assumes nothing.
+-- The channels of a board: a record put at its place is found there, the others stay where they are, of two put there the later stands, and its own changes
+-- nothing; and what a call with refusal 2 comes to. Assumes nothing.
 use Prim.Native.Nat.{ℕ, _<_, _≤_}
 use mathlib.Core.Bool.{false}
 use mathlib.Core.List.{List}
-use mathlib.Core.Path.{_≡_, ap}
+use mathlib.Core.Path.{_≡_, sym, ap, _∙_}
 use native.Mathlib.Omega.{arith}
 use lib.Dec.{ltb}
 use lib.ListN.{length}
-use lib.Seq.{getD-set-same, getD-set-other, set-set}
+use lib.Seq.{getD-set-same, getD-set-other, set-set, set-getD}
 use borrow.Author.Tests.{ltb-false, le-ltb}
 use Rattle.channel.specs.declared.Channel.{Channel}
 use Rattle.channel.specs.Blank.{blank}
@@ -24,6 +24,9 @@ put-other b n m c other = getD-set-other (b .channels) n m c blank other
 
 pub put-again : (b : Board) (n : ℕ) (c d : Channel) → withChannel (withChannel b n c) n d ≡ withChannel b n d
 put-again b n c d = ap (withChannels b) (set-set (b .channels) n c d)
+
+pub put-own : (b : Board) (n : ℕ) (c : Channel) → channelAt b n ≡ c → withChannel b n c ≡ b
+put-own b n c is = ap (withChannel b n) (sym is) ∙ ap (withChannels b) (set-getD (b .channels) n blank)
 
 -- refusal 2 is not given to a channel of the board
 pub not-above : (n : ℕ) → n < 3 → ltb 2 n ≡ false

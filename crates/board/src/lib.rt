@@ -1,5 +1,4 @@
-// The board, by value: a call takes one and hands one back. Its ports and gates are the crate ports', its time the crate clock's.
-pub mod counting;
+// The board's record, a fresh one, and what a host can ask of it. The calls that change it are the crate calls'.
 pub mod making;
 pub mod queries;
 

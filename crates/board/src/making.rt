@@ -1,4 +1,4 @@
-// The fresh board, and reset.
+// The fresh board.
 use crate::Answer;
 use crate::Answered;
 use crate::Board;
@@ -10,7 +10,7 @@ use time::TimerTicks;
 ghost use mathlib.Core.Path.{_≡_};
 ghost use mathlib.Core.List.{[]};
 ghost use Rattle.board.specs.Answer.{outcome};
-ghost use Rattle.board.specs.Making.{fresh, new, restored, reset};
+ghost use Rattle.board.specs.Making.{fresh, new};
 
 impl Board {
     fn fresh(model: PitType, divisor: u32) -> Board
@@ -41,33 +41,5 @@ impl Board {
             answer: Answer::Done,
             board,
         }
-    }
-
-    // Nothing is lent for events: a reset raises none, even where an output changes.
-    fn restored(self) -> Board
-        ensures { λ r. ⌜ r ≡ restored self ⌝ }
-    {
-        let c0 = self.channels[0];
-        let c1 = self.channels[1];
-        let c2 = self.channels[2];
-        let channels = [c0.reset(), c1.reset(), c2.reset()];
-        let mut b = self;
-        b.channels = channels;
-        b
-    }
-
-    // Refusal 16.
-    pub fn reset(self) -> Answered
-        ensures { λ r. ⌜ outcome r [] ≡ reset self ⌝ }
-    {
-        let owed = self.owed;
-        if owed.0 == 0 {
-            let board = self.restored();
-            return Answered {
-                answer: Answer::Done,
-                board,
-            };
-        }
-        self.refuse(Refusal::TicksOwed)
     }
 }

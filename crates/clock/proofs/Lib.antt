@@ -1,1 +1,2 @@
-pub mod Elapsed
+pub mod Tests
+pub mod Fields

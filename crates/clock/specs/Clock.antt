@@ -23,10 +23,14 @@ yielding b warp defer (accepted made) = accept (ticks (made .ticks)) (withTime b
 abbrev pub timely : Board → Outcome → Outcome
 timely b outcome = cond (eqb (b .divisor) 0) (refuse 3 b []) (unlessOwed b [] outcome)
 
+-- what a call of time comes to that leaves this warp and defer flag
+abbrev pub elapse : Board → ℕ → ℕ → Bool → Outcome
+elapse b given warp defer = timely b (yielding b warp defer (elapsed b given))
+
 -- "Catch-up then sets the warp to its ticks and the defer flag to true"
 unfoldable pub catchUp : Board → ℕ → Outcome
-catchUp b given = timely b (yielding b given true (elapsed b given))
+catchUp b given = elapse b given given true
 
 -- "run sets the warp to 0"
 unfoldable pub run : Board → ℕ → Outcome
-run b given = timely b (yielding b 0 (b .defer) (elapsed b given))
+run b given = elapse b given 0 (b .defer)

@@ -1,9 +1,11 @@
 // Output events: two bytes for a change of output level, in the rest of the bytes that a call lends. No board is needed here.
+use channel::Channel;
 use refusal::Refusal;
 ghost use mathlib.Core.Path.{_≡_};
 ghost use Prim.Native.Nat.{_≤_};
-ghost use lib.ListN.{length};
-ghost use Rattle.event.specs.Event.{sameLevel, eventOf, firstTwo, placing, placeEvent};
+ghost use mathlib.Core.List.{_++_};
+ghost use lib.ListN.{length, drop};
+ghost use Rattle.event.specs.Event.{sameLevel, eventOf, levelEvent, eventBytes, placing, placeEvent};
 
 pub enum Event {
     // The output stays where it is.
@@ -29,7 +31,7 @@ fn same_level(was: bool, is: bool) -> bool
 }
 
 // The event of an output that goes from one level to another.
-pub fn event_of(channel: u8, was: bool, is: bool) -> Event
+fn event_of(channel: u8, was: bool, is: bool) -> Event
     ensures { λ r. ⌜ r ≡ eventOf channel was is ⌝ }
 {
     if same_level(was, is) {
@@ -38,10 +40,19 @@ pub fn event_of(channel: u8, was: bool, is: bool) -> Event
     Event::Level(channel, is)
 }
 
+// The event of a channel, at this place on the board, whose record becomes another.
+pub fn level_event(n: u8, old: Channel, new: Channel) -> Event
+    ensures { λ r. ⌜ r ≡ levelEvent n old new ⌝ }
+{
+    let was = old.pins;
+    let is = new.pins;
+    event_of(n, was.output, is.output)
+}
+
 // The event writer: it is lent the rest of the event bytes, from the place on.
 fn write_event(rest: &mut [u8], channel: u8, level: bool)
     requires { ⌜ 2 ≤ length (now rest) ⌝ }
-    ensures { λ r. ⌜ now (rest .exit) ≡ firstTwo channel level (now (rest .entry)) ⌝ }
+    ensures { λ r. ⌜ now (rest .exit) ≡ eventBytes (Event.Level channel level) ++ drop 2 (now (rest .entry)) ⌝ }
 {
     rest[0] = channel;
     rest[1] = numbers::flag_byte(level);

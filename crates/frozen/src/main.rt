@@ -1,96 +1,82 @@
-// Replays the frozen sample of the original's answers (stdin; README.md says how it was made) through the exported function, and
-// prints how many cases differ.
-use libc::STDIN_FILENO;
-use libc::STDOUT_FILENO;
+// Replays the frozen samples of the original's answers through the exported functions, and prints how many cases of each differ. The arguments
+// name the files: of channels, of boards and of traces, in this order. README.md says what they hold and how they were made.
+mod boards;
+mod channels;
+mod traces;
 
-// A case: the record before (29 bytes); code, number, setting; the record after (29); the answer (7).
-const CASE: usize = 68;
+use libc::STDOUT_FILENO;
 
 // More than any sample has: the loop ends even if the input does not.
 const MOST: u64 = 1000000;
 
-// Stands in the answer before the operation, to be seen where nothing is written.
-const OLD_ANSWER: u8 = 0xA5;
+// Stands in an answer before the operation, to be seen where nothing is written.
+pub(crate) const OLD_ANSWER: u8 = 0xA5;
 
-fn agrees(case: &[u8]) -> bool {
-    if case.len() != CASE {
-        return false;
-    }
-    let mut record = [0u8; 29];
-    let mut answer = [OLD_ANSWER; 7];
-    bytes::copy(&case[0..29], &mut record);
-    let status = pit::pit_channel_operation(&mut record, &mut answer, case[29], case[30], case[31]);
-    if status != 0 {
-        return false;
-    }
-    if check::same(&record, &case[32..61]) {
-        return check::same(&answer, &case[61..]);
-    }
-    false
+enum Kind {
+    Channels,
+    Boards,
+    Traces,
 }
 
-// A case read and tried, or the bytes that were left where a case should begin.
-enum Turn {
+// What came of a case. One that the end of the file cuts off differs.
+enum Case {
     Agrees,
     Differs,
-    End(usize),
+    End,
 }
 
-fn next_case() -> Turn {
-    let mut case = [0u8; 68];
-    let left = io::read_full(STDIN_FILENO, &mut case);
-    if left < CASE {
-        return Turn::End(left);
+fn next_case(file: i32, kind: Kind) -> Case {
+    match kind {
+        Kind::Channels => channels::next_case(file),
+        Kind::Boards => boards::next_case(file),
+        Kind::Traces => traces::next_case(file),
     }
-    if agrees(&case) {
-        return Turn::Agrees;
-    }
-    Turn::Differs
 }
 
 struct Tally {
     cases: u64,
     differing: u64,
-    // Bytes of a last case that is not whole.
-    left: usize,
 }
 
-fn replay() -> Tally {
+fn replay(file: i32, kind: Kind) -> Tally {
     let mut cases: u64 = 0;
     let mut differing: u64 = 0;
     while cases < MOST {
-        let turn = next_case();
+        let case = next_case(file, kind);
         cases += 1;
-        match turn {
-            Turn::Agrees => {}
-            Turn::Differs => {
+        match case {
+            Case::Agrees => {}
+            Case::Differs => {
                 differing += 1;
             }
-            Turn::End(left) => {
+            Case::End => {
                 return Tally {
                     cases: cases - 1,
                     differing,
-                    left,
                 };
             }
         }
     }
-    Tally {
-        cases,
-        differing,
-        left: 0,
-    }
+    Tally { cases, differing }
 }
 
-fn print(name: &[u8], number: u64) {
-    io::write_all(STDOUT_FILENO, name);
-    io::print_decimal(STDOUT_FILENO, number);
+// A file that cannot be opened has no cases.
+fn replay_argument(argument: usize, kind: Kind) {
+    let mut name = io::buffer();
+    let length = os::arg(argument, &mut name);
+    let file = os::open_read(&name[..length]);
+    let tally = replay(file, kind);
+    libc::close(file);
+    io::write_all(STDOUT_FILENO, &name[..length]);
+    io::write_all(STDOUT_FILENO, b": ");
+    io::print_decimal(STDOUT_FILENO, tally.cases);
+    io::write_all(STDOUT_FILENO, b" cases, ");
+    io::print_decimal(STDOUT_FILENO, tally.differing);
+    io::write_all(STDOUT_FILENO, b" differ\n");
 }
 
 fn main() {
-    let tally = replay();
-    print(b"cases ", tally.cases);
-    print(b", differing ", tally.differing);
-    print(b", bytes left over ", tally.left as u64);
-    io::write_all(STDOUT_FILENO, b"\n");
+    replay_argument(1, Kind::Channels);
+    replay_argument(2, Kind::Boards);
+    replay_argument(3, Kind::Traces);
 }

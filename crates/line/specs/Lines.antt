@@ -9,6 +9,7 @@ use Rattle.refusal.specs.Reply.{Reply, refused, accepted}
 use Rattle.channel.specs.declared.PitType.{PitType}
 use Rattle.channel.specs.declared.PitType.the-variants.{Model8253, Model8254}
 use Rattle.board.specs.Outcome.{Value, done, newPlace, byte, ticks, outputState, channelCount, retriggers, dirtyMarks, timerAccum, worked}
+use Rattle.trace.specs.Judgement.{Faulted}
 use Rattle.text.specs.Ascii.{ascii}
 use Rattle.text.specs.Number.{decimal, hex}
 
@@ -84,5 +85,5 @@ unfoldable pub endLine : ℕ → List ℕ
 endLine number = ascii "end " ++ decimal number ++ newline
 
 -- "a fault prints only `trace refused N at P`"
-unfoldable pub faultLine : ℕ → ℕ → List ℕ
-faultLine number place = ascii "trace refused " ++ decimal number ++ ascii " at " ++ decimal place ++ newline
+unfoldable pub faultLine : Faulted → List ℕ
+faultLine f = ascii "trace refused " ++ decimal (f .number) ++ ascii " at " ++ decimal (f .place) ++ newline

@@ -4,12 +4,12 @@ pub mod sentence;
 
 use channel::PitType;
 pub use operation::operation_line;
-use refusal::Refusal;
 pub use sentence::line_of;
+use trace::Fault;
 ghost use mathlib.Core.Path.{_≡_};
 ghost use Prim.Native.Nat.{_≤_};
 ghost use lib.ListN.{length};
-ghost use Rattle.refusal.specs.Refusal.{refusalNumber};
+ghost use Rattle.trace.specs.Answer.{faultOf};
 ghost use Rattle.line.specs.Line.{lineOf, lineRoom};
 ghost use Rattle.line.specs.Lines.{modelName, headLine, endLine, faultLine};
 
@@ -54,14 +54,15 @@ pub fn end_line(number: u32) -> Line
     Line { bytes, len: place }
 }
 
-pub fn fault_line(refusal: Refusal, at: usize) -> Line
-    ensures { λ r. ⌜ (r ≡ lineOf (faultLine (refusalNumber refusal) at)) × (length (faultLine (refusalNumber refusal) at) ≤ lineRoom) ⌝ }
+pub fn fault_line(fault: Fault) -> Line
+    ensures { λ r. ⌜ (r ≡ lineOf (faultLine (faultOf fault))) × (length (faultLine (faultOf fault)) ≤ lineRoom) ⌝ }
 {
     let mut bytes = [0u8; LINE_ROOM];
+    let refusal = fault.refusal;
     let mut place = text::put(&mut bytes, 0, b"trace refused ");
     place = text::put_decimal(&mut bytes, place, refusal.number() as u64);
     place = text::put(&mut bytes, place, b" at ");
-    place = text::put_decimal(&mut bytes, place, at as u64);
+    place = text::put_decimal(&mut bytes, place, fault.place as u64);
     place = text::put(&mut bytes, place, b"\n");
     Line { bytes, len: place }
 }

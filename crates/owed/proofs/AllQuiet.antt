@@ -10,15 +10,15 @@ use borrow.Author.Tests.{lt-ltb, le-ltb}
 use Rattle.channel.specs.declared.Channel.{Channel}
 use Rattle.channel.specs.declared.PitType.{PitType}
 use Rattle.channel.proofs.Pick.{pick-holds}
-use Rattle.quiet.specs.Quiet.{skip}
+use Rattle.quiet.specs.Inner.{skip}
 use Rattle.refusal.specs.Reply.{accepted}
 use Rattle.board.specs.declared.Board.{Board}
 use Rattle.board.specs.Outcome.{worked}
 use Rattle.board.specs.Board.{owing}
-use Rattle.owed.specs.Worked.{workOn, begun, report, workOff}
+use Rattle.owed.specs.Worked.{workUpTo, begun, report, workOff}
 use Rattle.owed.specs.Told.{smaller}
 use Rattle.owed.specs.Ticked.{Has}
-use Rattle.owed.specs.Alike.{alike, Alike, quietRun, QuietRun}
+use Rattle.owed.specs.Inner.{alike, Alike, quietRun, QuietRun}
 use Rattle.owed.proofs.Skips.{Few, alike-few}
 use Rattle.owed.proofs.Runs.{skips-at-once}
 use Rattle.owed.proofs.Working.{accepted-is, put-back, work}
@@ -50,7 +50,7 @@ module _ (c₀ c₁ c₂ : Channel) (owed stated : ℕ) where
     comes-to all b model has events place inside =
         let f : Few stated owed c₀ c₁ c₂ run = alike-few _ _ _ _ _ _ (found .number-is) in
         accepted-is b stated events place inside few
-        ∙ ap (λ (d : Board). report (workOn stated (begun d events place))) (sym (put-back has))
+        ∙ ap (λ (d : Board). report (workUpTo stated (begun d events place))) (sym (put-back has))
         ∙ ap report
         (skips-at-once run c₀ c₁ c₂ (found .skips₀) (found .skips₁) (found .skips₂) b owed stated 0 (record { bytes = events; place = place }) (f .in-left) (f .in-owed)
         ∙ stays (stated - run) (work (0 + run) (after b) events place) (none-left stated owed run all))

@@ -11,7 +11,7 @@ use Rattle.numbers.specs.Times.{times}
 use Rattle.channel.specs.declared.Channel.{Channel}
 use Rattle.channel.specs.Blank.{blank}
 use Rattle.tick.specs.Tick.{tick}
-use Rattle.quiet.specs.Quiet.{skip}
+use Rattle.quiet.specs.Inner.{skip}
 use Rattle.event.specs.declared.Event.{Event}
 use Rattle.event.specs.declared.Event.the-variants.{Unchanged}
 use Rattle.event.specs.Event.{eventOf}
@@ -19,8 +19,8 @@ use Rattle.event.proofs.Room.{standing-level}
 use Rattle.board.specs.declared.Board.{Board}
 use Rattle.board.specs.Board.{channelAt, owing}
 use Rattle.owed.specs.BoardTick.{boardTick, tickEvent}
-use Rattle.owed.specs.Alike.{Skips}
-use Rattle.owed.specs.Worked.{Room, put, size, needed, Work, oneMore, stops, workOn}
+use Rattle.owed.specs.Inner.{Skips}
+use Rattle.owed.specs.Worked.{Room, put, size, needed, Work, oneMore, stops, workUpTo}
 
 pub three-are : (xs : List Channel) → length xs ≡ 3 → xs ≡ getD xs 0 blank ∷ getD xs 1 blank ∷ getD xs 2 blank ∷ []
 three-are [] three = absurd (omega arith)
@@ -102,15 +102,15 @@ one-quietly k w three still owed =
 
 -- a run of ticks with no event, made in one step
 run-at-once : (k left : ℕ) (w : Work) → length (w .board .channels) ≡ 3 → Still (w .board) k → k ≤ left → k ≤ w .board .owed .0
-    → workOn left w ≡ workOn (left - k) (quietly k w)
+    → workUpTo left w ≡ workUpTo (left - k) (quietly k w)
 run-at-once zero left w three still few owed =
-    ap₂ (λ (n m : ℕ). workOn n (record { made = m; board = w .board; room = w .room })) (sym (sub-zero left)) (sym (add-zero (w .made)))
+    ap₂ (λ (n m : ℕ). workUpTo n (record { made = m; board = w .board; room = w .room })) (sym (sub-zero left)) (sym (add-zero (w .made)))
 run-at-once (suc k) left w three still few owed =
     let one : left - k ≡ suc (left - suc k) = omega arith in
     let step = one-quietly k w three still owed in
     run-at-once k left w three (λ n small j under. still n small j (omega arith)) (omega arith) (omega arith)
     ∙ rw one (simp (step .0))
-    ∙ ap (workOn (left - suc k)) (step .1)
+    ∙ ap (workUpTo (left - suc k)) (step .1)
 
 -- a run that all three channels skip
 module _ (k : ℕ) (c₀ c₁ c₂ : Channel) (s₀ : Skips k c₀) (s₁ : Skips k c₁) (s₂ : Skips k c₂) (b : Board) (owed : ℕ) where
@@ -127,8 +127,8 @@ module _ (k : ℕ) (c₀ c₁ c₂ : Channel) (s₀ : Skips k c₀) (s₁ : Skip
   skips-ticked = ticks-are k before refl ∙ sym (simp (s₀ .ticked (b .model), s₁ .ticked (b .model), s₂ .ticked (b .model)))
 
   pub skips-at-once : (left made : ℕ) (room : Room) → k ≤ left → k ≤ owed
-      → workOn left (record { made = made; board = before; room = room })
-      ≡ workOn (left - k) (record { made = made + k; board = owing b (owed - k) (skip k c₀ ∷ skip k c₁ ∷ skip k c₂ ∷ []); room = room })
+      → workUpTo left (record { made = made; board = before; room = room })
+      ≡ workUpTo (left - k) (record { made = made + k; board = owing b (owed - k) (skip k c₀ ∷ skip k c₁ ∷ skip k c₂ ∷ []); room = room })
   skips-at-once left made room few owes =
       run-at-once k left (record { made = made; board = before; room = room }) refl skips-still few owes
-      ∙ ap (λ (d : Board). workOn (left - k) (record { made = made + k; board = d; room = room })) skips-ticked
+      ∙ ap (λ (d : Board). workUpTo (left - k) (record { made = made + k; board = d; room = room })) skips-ticked

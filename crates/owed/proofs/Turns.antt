@@ -7,7 +7,7 @@ use Rattle.channel.specs.declared.Channel.{Channel}
 use Rattle.channel.specs.declared.PitType.{PitType}
 use Rattle.tick.specs.Tick.{tick}
 use Rattle.event.specs.declared.Event.{Event}
-use Rattle.event.specs.Event.{eventOf}
+use Rattle.event.specs.Event.{levelEvent}
 use Rattle.board.specs.declared.Board.{Board}
 use Rattle.board.specs.Board.{owing}
 use Rattle.owed.specs.BoardTick.{boardTick}
@@ -16,14 +16,14 @@ use Rattle.owed.specs.Worked.{Room, put, size, needed, putAll}
 -- channel n after its tick, and its event
 pub record Ticks (model : PitType) (n : ℕ) (d t : Channel) (e : Event) : Type 0 where
   pub after : t ≡ tick model d
-  pub event : e ≡ eventOf n (d .pins .output) (t .pins .output)
+  pub event : e ≡ levelEvent n d t
 
 module _ {model : PitType} {n : ℕ} {d t : Channel} {e : Event} (f : Ticks model n d t e) (m : PitType) (model-is : m ≡ model) where
   moved : t ≡ tick m d
   moved = f .after ∙ ap (λ (x : PitType). tick x d) (sym model-is)
 
-  told : e ≡ eventOf n (d .pins .output) (tick m d .pins .output)
-  told = f .event ∙ ap (λ (c : Channel). eventOf n (d .pins .output) (c .pins .output)) moved
+  told : e ≡ levelEvent n d (tick m d)
+  told = f .event ∙ ap (levelEvent n d) moved
 
 module _ {model : PitType} {d₀ d₁ d₂ t₀ t₁ t₂ : Channel} {e₀ e₁ e₂ : Event} (f₀ : Ticks model 0 d₀ t₀ e₀) (f₁ : Ticks model 1 d₁ t₁ e₁) (f₂ : Ticks model 2 d₂ t₂ e₂) (b : Board) (owed : ℕ) (model-is : b .model ≡ model) where
   abbrev before : Board

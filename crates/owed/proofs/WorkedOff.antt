@@ -18,7 +18,7 @@ use Rattle.channel.proofs.Pick.{pick-holds, pick-knowing}
 use Rattle.board.specs.declared.Board.{Board}
 use Rattle.board.specs.Outcome.{Value, worked, Outcome, refuse}
 use Rattle.owed.specs.BoardTick.{boardTick}
-use Rattle.owed.specs.Worked.{Room, needed, putAll, Work, oneMore, full, workOn, begun, report, workOff}
+use Rattle.owed.specs.Worked.{Room, needed, putAll, Work, oneMore, full, workUpTo, begun, report, workOff}
 use Rattle.owed.specs.Told.{tickBytes, allBytes, smaller, Enough, WorksOff, MakesNone, RefusedLeaves}
 use Rattle.owed.proofs.Tells.{between, tick-size, all-behind, one-tick-more}
 use Rattle.owed.proofs.Working.{accepted-is}
@@ -121,17 +121,17 @@ module _ (b : Board) (events : List ℕ) (place : ℕ) (inside : place ≤ lengt
         (t, inr (below-smaller (w .made) stated (b .owed .0) (omega arith) (omega (arith, t .fewer-owed, some)), omega (arith, short, length-is w t, tick-size (w .board))))
     by-tests false false none-is short-is more = more (eqb-false _ _ none-is) (ltb-false _ _ short-is)
 
-  ended : (stated left : ℕ) (w : Work) → Telling b events place w → left + w .made ≡ stated → Ended stated (workOn left w)
+  ended : (stated left : ℕ) (w : Work) → Telling b events place w → left + w .made ≡ stated → Ended stated (workUpTo left w)
   ended stated zero w t all =
       let made : w .made ≡ stated = omega arith in
       (t, inl (made ∙ sym (first-smaller stated (b .owed .0) (omega (arith, t .fewer-owed)))))
   ended stated (suc left) w t all =
-      by-tests stated left w t all (workOn left (oneMore w)) (eqb (w .board .owed .0) 0) (full w) refl refl
+      by-tests stated left w t all (workUpTo left (oneMore w)) (eqb (w .board .owed .0) 0) (full w) refl refl
       (λ some fits. ended stated left (oneMore w) (goes-on w t some fits) (omega arith))
 
 pub worked-off : WorksOff
 worked-off b stated events place inside few =
-    let w = workOn stated (begun b events place) in
+    let w = workUpTo stated (begun b events place) in
     let e = ended b events place inside stated stated (begun b events place) (begins b events place inside) (omega arith) in
     let at = at-is b events place inside w (e .0) in
     rw (accepted-is b stated events place inside few)
@@ -147,7 +147,7 @@ worked-off b stated events place inside few =
       told = ap (λ (r : Room). r .bytes) (e .0 .room-is) ∙ ap (λ k. take place events ++ allBytes (w .made) b ++ drop k events) (sym at);
     }
 
-pub stays : (left : ℕ) (w : Work) → (left ≡ 0) ⊎ (w .board .owed .0 ≡ 0) → workOn left w ≡ w
+pub stays : (left : ℕ) (w : Work) → (left ≡ 0) ⊎ (w .board .owed .0 ≡ 0) → workUpTo left w ≡ w
 stays zero w none = refl
 stays (suc left) w none = ⊎-elim (λ (z : suc left ≡ 0). absurd (omega arith)) (λ (z : w .board .owed .0 ≡ 0). simp (eq-eqb _ _ z)) none
 
@@ -165,4 +165,4 @@ module _ (b : Board) (events : List ℕ) (made place number : ℕ) (after : Outc
 pub refused-leaves : RefusedLeaves
 unfolding workOff
 refused-leaves b stated events place number is =
-    refused-by b events _ _ number (report (workOn stated (begun b events place))) refl (ltb (length events) place) (ltb 65536 stated) is
+    refused-by b events _ _ number (report (workUpTo stated (begun b events place))) refl (ltb (length events) place) (ltb 65536 stated) is

@@ -8,20 +8,20 @@ use lib.ListN.{length}
 use borrow.Author.Tests.{lt-ltb, le-ltb, eq-eqb, ne-eqb}
 use Rattle.channel.specs.declared.Channel.{Channel}
 use Rattle.channel.specs.declared.PitType.{PitType}
-use Rattle.quiet.specs.Quiet.{skip}
+use Rattle.quiet.specs.Inner.{skip}
 use Rattle.event.specs.declared.Event.{Event}
 use Rattle.board.specs.declared.Board.{Board}
 use Rattle.board.specs.Board.{owing}
-use Rattle.owed.specs.Worked.{Room, put, size, needed, Work, stops, workOn, begun, report, workOff}
+use Rattle.owed.specs.Worked.{Room, put, size, needed, Work, stops, workUpTo, begun, report, workOff}
 use Rattle.owed.specs.Ticked.{Has}
-use Rattle.owed.specs.Alike.{Skips}
+use Rattle.owed.specs.Inner.{Skips}
 use Rattle.owed.proofs.Puts.{puts-fit}
 use Rattle.owed.proofs.Runs.{skips-at-once}
 use Rattle.owed.proofs.Turns.{Ticks, tick-board, tick-needs, tick-room}
 
 -- refusals 7 and 15 not given
 pub accepted-is : (b : Board) (stated : ℕ) (events : List ℕ) (place : ℕ) → place ≤ length events → stated ≤ 65536
-    → workOff b stated events place ≡ report (workOn stated (begun b events place))
+    → workOff b stated events place ≡ report (workUpTo stated (begun b events place))
 unfolding workOff
 accepted-is b stated events place inside few = simp (le-ltb _ _ inside, le-ltb _ _ few)
 
@@ -39,7 +39,7 @@ pub record Working (c₀ c₁ c₂ : Channel) (model : PitType) (owed stated : �
   pub same-length : length bytes ≡ length events
   pub inside : at ≤ length bytes
   pub same-end : (b : Board) → Has b c₀ c₁ c₂ model owed
-      → workOn (stated - made) (work made (owing b left (d₀ ∷ d₁ ∷ d₂ ∷ [])) bytes at) ≡ workOn stated (begun b events place)
+      → workUpTo (stated - made) (work made (owing b left (d₀ ∷ d₁ ∷ d₂ ∷ [])) bytes at) ≡ workUpTo stated (begun b events place)
 
 pub begins : (c₀ c₁ c₂ : Channel) (model : PitType) (owed stated : ℕ) (events : List ℕ) (place : ℕ) → place ≤ length events
     → Working c₀ c₁ c₂ model owed stated events place 0 owed c₀ c₁ c₂ events place
@@ -49,7 +49,7 @@ begins c₀ c₁ c₂ model owed stated events place inside =
       few = omega arith;
       same-length = refl;
       inside = inside;
-      same-end = λ b has. ap₂ (λ n (d : Board). workOn n (begun d events place)) all (put-back has);
+      same-end = λ b has. ap₂ (λ n (d : Board). workUpTo n (begun d events place)) all (put-back has);
     }
 
 module _ {c₀ c₁ c₂ : Channel} {model : PitType} {owed stated : ℕ} {events : List ℕ} {place made left : ℕ} {d₀ d₁ d₂ : Channel} {bytes : List ℕ} {at : ℕ} (w : Working c₀ c₁ c₂ model owed stated events place made left d₀ d₁ d₂ bytes at) where
@@ -59,13 +59,13 @@ module _ {c₀ c₁ c₂ : Channel} {model : PitType} {owed stated : ℕ} {event
 
   -- to end here is right
   abbrev Ends : Type 0
-  Ends = (b : Board) → Has b c₀ c₁ c₂ model owed → report (here b) ≡ report (workOn stated (begun b events place))
+  Ends = (b : Board) → Has b c₀ c₁ c₂ model owed → report (here b) ≡ report (workUpTo stated (begun b events place))
 
   -- the stated number is made
   pub all-made : stated ≤ made → Ends
   all-made h b has =
       let none : stated - made ≡ 0 = omega arith in
-      ap report (ap (λ n. workOn n (here b)) (sym none) ∙ w .same-end b has)
+      ap report (ap (λ n. workUpTo n (here b)) (sym none) ∙ w .same-end b has)
 
   stopped : made < stated → ((b : Board) → Has b c₀ c₁ c₂ model owed → stops (here b) ≡ true) → Ends
   stopped h stop b has =
@@ -87,7 +87,7 @@ module _ {c₀ c₁ c₂ : Channel} {model : PitType} {owed stated : ℕ} {event
         same-length = w .same-length;
         inside = w .inside;
         same-end = λ b has.
-            ap (λ n. workOn n (work (made + run) (owing b (left - run) (skip run d₀ ∷ skip run d₁ ∷ skip run d₂ ∷ [])) bytes at)) (sym rest)
+            ap (λ n. workUpTo n (work (made + run) (owing b (left - run) (skip run d₀ ∷ skip run d₁ ∷ skip run d₂ ∷ [])) bytes at)) (sym rest)
             ∙ sym (skips-at-once run d₀ d₁ d₂ s₀ s₁ s₂ b left (stated - made) made (record { bytes = bytes; place = at }) few owes)
             ∙ w .same-end b has;
       })
@@ -117,7 +117,7 @@ module _ {c₀ c₁ c₂ : Channel} {model : PitType} {owed stated : ℕ} {event
           same-end = λ b has.
               let fits : needed (here b .board) ≤ length bytes - at = omega (arith, enough, tick-needs f₀ f₁ f₂ b left (has .model-is)) in
               let goes : stops (here b) ≡ false = simp (ne-eqb _ _ owes, le-ltb _ _ fits) in
-              ap₂ (λ (d : Board) (r : Room). workOn (stated - (made + 1)) (record { made = made + 1; board = d; room = r }))
+              ap₂ (λ (d : Board) (r : Room). workUpTo (stated - (made + 1)) (record { made = made + 1; board = d; room = r }))
               (sym (tick-board f₀ f₁ f₂ b left (has .model-is))) (after ∙ tick-room f₀ f₁ f₂ b left (has .model-is) room)
               ∙ sym (rw one (simp goes))
               ∙ w .same-end b has;

@@ -3,7 +3,7 @@ use Prim.Native.Nat.{ℕ, _-_}
 use mathlib.Core.List.{[], _∷_}
 use Rattle.channel.specs.declared.Channel.{Channel}
 use Rattle.event.specs.declared.Event.{Event}
-use Rattle.event.specs.Event.{eventOf}
+use Rattle.event.specs.Event.{levelEvent}
 use Rattle.board.specs.declared.Board.{Board}
 use Rattle.board.specs.Board.{channelAt}
 use Rattle.tick.specs.Tick.{tick}
@@ -27,4 +27,4 @@ boardTick b =
 
 -- the event of a channel in a tick of the board: its "output level after it differs from before"
 abbrev pub tickEvent : Board → ℕ → Event
-tickEvent b n = eventOf n (channelAt b n .pins .output) (tickedAt b n .pins .output)
+tickEvent b n = levelEvent n (channelAt b n) (tickedAt b n)

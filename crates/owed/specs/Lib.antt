@@ -2,4 +2,4 @@ pub mod BoardTick
 pub mod Worked
 pub mod Told
 pub mod Ticked
-pub mod Alike
+pub mod Inner

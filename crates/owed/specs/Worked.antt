@@ -53,9 +53,9 @@ abbrev pub stops : Work → Bool
 stops w = eqb (w .board .owed .0) 0 || full w
 
 -- at most this many ticks more, one after another
-abbrev pub workOn : ℕ → Work → Work
-workOn zero w = w
-workOn (suc left) w = cond (stops w) w (workOn left (oneMore w))
+abbrev pub workUpTo : ℕ → Work → Work
+workUpTo zero w = w
+workUpTo (suc left) w = cond (stops w) w (workUpTo left (oneMore w))
 
 -- nothing made yet
 abbrev pub begun : Board → List ℕ → ℕ → Work
@@ -69,4 +69,4 @@ report w = record { reply = accepted (worked (w .made) (w .room .place)); board 
 unfoldable pub workOff : Board → ℕ → List ℕ → ℕ → Outcome
 workOff b stated events place =
     cond (ltb (length events) place) (refuse 7 b events)
-    (cond (ltb 65536 stated) (refuse 15 b events) (report (workOn stated (begun b events place))))
+    (cond (ltb 65536 stated) (refuse 15 b events) (report (workUpTo stated (begun b events place))))

@@ -1,7 +1,5 @@
 // Owed ticks: a run or catch-up leaves them on the board, and they are worked off here, each with the events of its outputs.
 use board::Answer;
-use board::Answered;
-use board::Board;
 use board::Worked;
 use channel::Channel;
 use channel::PitType;
@@ -16,13 +14,11 @@ ghost use lib.ListN.{length};
 ghost use Rattle.refusal.specs.Refusal.{refusalNumber};
 ghost use Rattle.board.specs.declared.Board.{Board};
 ghost use Rattle.board.specs.Outcome.{refuse};
-ghost use Rattle.board.specs.Answer.{outcome};
-ghost use Rattle.event.specs.Event.{eventOf};
 ghost use Rattle.board.specs.Board.{owing};
-ghost use Rattle.owed.specs.Worked.{size, put, workOn, begun, report, workOff};
+ghost use Rattle.owed.specs.Worked.{size, put, workUpTo, begun, report, workOff};
 ghost use Rattle.owed.specs.Told.{smaller};
 ghost use Rattle.owed.specs.Ticked.{Has, tickedOn};
-ghost use Rattle.owed.specs.Alike.{Alike, QuietRun};
+ghost use Rattle.owed.specs.Inner.{Alike, QuietRun};
 
 // The smaller of two numbers.
 fn least(a: u32, b: u32) -> u32
@@ -46,15 +42,6 @@ fn alike(left: u32, owed: u32, c0: Channel, c1: Channel, c2: Channel) -> u32
     let all = least(q0, last);
     let due = least(owed, all);
     least(left, due)
-}
-
-// The event of a channel that a tick takes from one record to another.
-fn tick_event(n: u8, old: Channel, new: Channel) -> Event
-    ensures { λ r. ⌜ r ≡ eventOf n (old .pins .output) (new .pins .output) ⌝ }
-{
-    let was = old.pins;
-    let is = new.pins;
-    event::event_of(n, was.output, is.output)
 }
 
 // How many bytes an event takes.
@@ -128,7 +115,7 @@ fn refused(refusal: Refusal, c0: Channel, c1: Channel, c2: Channel, owed: TimerT
 
 // One loop owns the channels and changes them where they stand. A turn makes a run of quiet ticks in one step, or a single tick with its events; the
 // contract knows single ticks only, so it is itself the promise that the runs come to the same.
-fn work_on(
+fn work_up_to(
     c0: Channel,
     c1: Channel,
     c2: Channel,
@@ -139,7 +126,7 @@ fn work_on(
     place: usize,
 ) -> Ticked
     requires { ⌜ place ≤ length (now events) ⌝ }
-    ensures { λ r. ⌜ ((b : Board) → Has b c0 c1 c2 model (owed .0) → tickedOn b r (now (events .exit)) ≡ report (workOn stated (begun b (now (events .entry)) place))) ⌝ }
+    ensures { λ r. ⌜ ((b : Board) → Has b c0 c1 c2 model (owed .0) → tickedOn b r (now (events .exit)) ≡ report (workUpTo stated (begun b (now (events .entry)) place))) ⌝ }
 {
     let mut d0 = c0;
     let mut d1 = c1;
@@ -156,9 +143,9 @@ fn work_on(
             let t0 = tick::tick(d0, model);
             let t1 = tick::tick(d1, model);
             let t2 = tick::tick(d2, model);
-            let e0 = tick_event(0, d0, t0);
-            let e1 = tick_event(1, d1, t1);
-            let e2 = tick_event(2, d2, t2);
+            let e0 = event::level_event(0, d0, t0);
+            let e1 = event::level_event(1, d1, t1);
+            let e2 = event::level_event(2, d2, t2);
             if events.len() - at < size(e0) + size(e1) + size(e2) {
                 return worked(d0, d1, d2, left, made, at);
             }
@@ -211,29 +198,7 @@ pub fn work_channels(
     if 65536 < stated {
         return refused(Refusal::TooManyTicks, c0, c1, c2, owed);
     }
-    work_on(c0, c1, c2, model, owed, stated, events, place)
-}
-
-// The same of a board by value.
-pub fn work_off(b: Board, stated: u32, events: &mut [u8], place: usize) -> Answered
-    ensures { λ r. ⌜ outcome r (now (events .exit)) ≡ workOff b stated (now (events .entry)) place ⌝ }
-{
-    let mut board = b;
-    let c0 = board.channels[0];
-    let c1 = board.channels[1];
-    let c2 = board.channels[2];
-    let model = board.model;
-    let owed = board.owed;
-    let t = work_channels(c0, c1, c2, model, owed, stated, events, place);
-    let t0 = t.c0;
-    let t1 = t.c1;
-    let t2 = t.c2;
-    let channels = [t0, t1, t2];
-    let left = t.owed;
-    let answer = t.answer;
-    board.channels = channels;
-    board.owed = left;
-    Answered { answer, board }
+    work_up_to(c0, c1, c2, model, owed, stated, events, place)
 }
 
 // How many ticks the call makes where they are all quiet, else 0.

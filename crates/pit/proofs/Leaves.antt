@@ -9,7 +9,7 @@ use lib.Dec.{eqb, ltb}
 use lib.ListN.{length}
 use borrow.Author.Tests.{ne-eqb}
 use Rattle.refusal.specs.Reply.{Reply, refused, accepted, numberIn}
-use Rattle.trace.specs.Judgement.{Judgement, refusedAt, sound}
+use Rattle.trace.specs.Judgement.{Judgement, refusedBy, sound}
 use Rattle.trace.specs.Trace.{Trace, readTrace}
 use Rattle.board.specs.declared.Board.{Board}
 use Rattle.board_encoding.specs.Places.{boardSize}
@@ -93,7 +93,7 @@ module _ (out answer : List ℕ) where
   into-leaves trace = room-leaves-out (roomFor (readTrace trace)) (printed trace) (ltb (length out) (roomFor (readTrace trace))) refl
 
   judged-leaves : (judged : Judgement Trace) → Leaves (answersJudged judged out) out
-  judged-leaves (refusedAt number place) = λ n told. refl
+  judged-leaves (refusedBy f) = λ n told. refl
   judged-leaves (sound t) = room-leaves-out (roomOf Answers * length (t .operations)) (answersOf t) (ltb (length out) (roomOf Answers * length (t .operations))) refl
 
   answers-leave : (trace : List ℕ) → Leaves (answersInto trace out) out

@@ -1,5 +1,6 @@
 pub mod Port
 pub mod Settle
+pub mod Settled
 pub mod Gates
 pub mod Reads
 pub mod Writes

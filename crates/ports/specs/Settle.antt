@@ -3,16 +3,11 @@ use Prim.Native.Nat.{ℕ}
 use mathlib.Core.List.{List}
 use Rattle.refusal.specs.Reply.{Reply, refused, accepted}
 use Rattle.channel.specs.declared.Channel.{Channel}
-use Rattle.event.specs.declared.Event.{Event}
 use Rattle.event.specs.declared.Event.the-variants.{Unchanged}
-use Rattle.event.specs.Event.{Placing, eventOf, placeEvent}
+use Rattle.event.specs.Event.{Placing, levelEvent, placeEvent}
 use Rattle.board.specs.declared.Board.{Board}
 use Rattle.board.specs.Board.{channelAt, withChannel}
 use Rattle.board.specs.Outcome.{Outcome, Value, newPlace}
-
--- "a change of output level": the level after the call against the level before
-abbrev pub levelEvent : ℕ → Channel → Channel → Event
-levelEvent n old new = eventOf n (old .pins .output) (new .pins .output)
 
 -- the event's refusal or its new place is the call's
 abbrev pub callReply : Reply ℕ → Reply Value

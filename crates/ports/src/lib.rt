@@ -1,65 +1,49 @@
-// Ports and gates: the calls of the board that may raise an event, and the read.
-//
-// What those calls share stands here: a channel's new record is put back at its place, and the event of its output is written where there is one.
-mod gating;
+// Ports by their numbers, and what the calls that may raise an event share: a channel's new record, and the event of its output where there is one. No board goes in or out: its
+// owner puts the record back at its place.
 pub mod port;
-mod reading;
-mod writing;
 
 use board::Answer;
-use board::Answered;
-use board::Board;
 use channel::Channel;
 use event::Event;
 use event::Placed;
-pub use gating::set_channel_gate;
-pub use reading::read_port;
-pub use writing::write_port;
 ghost use mathlib.Core.Path.{_≡_};
-ghost use Rattle.board.specs.Answer.{outcome};
-ghost use Prim.Native.Nat.{_<_};
-ghost use Rattle.ports.specs.Settle.{levelEvent, settle, untouched};
+ghost use Rattle.board.specs.declared.Board.{Board};
+ghost use Rattle.board.specs.Board.{channelAt};
+ghost use Rattle.board.specs.Answer.{replyOf};
+ghost use Rattle.ports.specs.Settle.{settle, untouched};
+ghost use Rattle.ports.specs.Settled.{settledOn};
 
-fn level_event(n: usize, old: Channel, new: Channel) -> Event
-    requires { ⌜ n < 3 ⌝ }
-    ensures { λ r. ⌜ r ≡ levelEvent n old new ⌝ }
-{
-    let was = old.pins;
-    let is = new.pins;
-    event::event_of(n as u8, was.output, is.output)
+// What is said of a channel, and its record: where the event is refused, the record as it was.
+pub struct Settled {
+    pub answer: Answer,
+    pub channel: Channel,
 }
 
-// A call that leaves the record c at place n. Refusals 7 and 8.
-fn settle(b: Board, n: usize, c: Channel, events: &mut [u8], place: usize) -> Answered
-    requires { ⌜ n < 3 ⌝ }
-    ensures { λ r. ⌜ outcome r (now (events .exit)) ≡ settle b n c (now (events .entry)) place ⌝ }
+// A call that leaves the channel at place n this new record. Refusals 7 and 8.
+pub fn settle(n: u8, old: Channel, new: Channel, events: &mut [u8], place: usize) -> Settled
+    ensures { λ r. ⌜ ((b : Board) → channelAt b n ≡ old → settledOn b n r (now (events .exit)) ≡ settle b n new (now (events .entry)) place) ⌝ }
 {
-    let old = b.channels[n];
-    let event = level_event(n, old, c);
+    let event = event::level_event(n, old, new);
     let placed = event::place_event(events, place, event);
     match placed {
-        Placed::At(at) => {
-            let mut board = b;
-            board.channels[n] = c;
-            Answered {
-                answer: Answer::Place(at),
-                board,
-            }
-        }
-        Placed::Refused(refusal) => b.refuse(refusal),
+        Placed::At(at) => Settled {
+            answer: Answer::Place(at),
+            channel: new,
+        },
+        Placed::Refused(refusal) => Settled {
+            answer: Answer::Refused(refusal),
+            channel: old,
+        },
     }
 }
 
-// A call that changes nothing. Refusal 7 is given all the same.
-fn untouched(b: Board, events: &mut [u8], place: usize) -> Answered
-    ensures { λ r. ⌜ outcome r (now (events .exit)) ≡ untouched b (now (events .entry)) place ⌝ }
+// A call that changes no channel. Refusal 7 is given all the same.
+pub fn untouched(events: &mut [u8], place: usize) -> Answer
+    ensures { λ r. ⌜ ((b : Board) → record { reply = replyOf r; board = b; events = now (events .exit) } ≡ untouched b (now (events .entry)) place) ⌝ }
 {
     let placed = event::place_event(events, place, Event::Unchanged);
     match placed {
-        Placed::At(at) => Answered {
-            answer: Answer::Place(at),
-            board: b,
-        },
-        Placed::Refused(refusal) => b.refuse(refusal),
+        Placed::At(at) => Answer::Place(at),
+        Placed::Refused(refusal) => Answer::Refused(refusal),
     }
 }

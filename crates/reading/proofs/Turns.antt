@@ -16,7 +16,7 @@ use Rattle.board.specs.Outcome.{Outcome, Value, byte, unlessOwed}
 use Rattle.ports.specs.Port.{portOf}
 use Rattle.ports.proofs.Below.{data-port}
 use Rattle.ports.specs.Settle.{settle}
-use Rattle.ports.proofs.Settled.{settle-taken}
+use Rattle.ports.proofs.Settling.{settle-taken}
 use Rattle.ports.specs.Reads.{dataRead, readFrom, readPort}
 use Rattle.ports.specs.Writes.{controlRegisterWrite, writePort}
 use Rattle.step.specs.Step.{step}

@@ -6,24 +6,24 @@ use native.Mathlib.Omega.{arith}
 use lib.ListN.{length, set}
 use Rattle.refusal.specs.Reply.{Reply, accepted}
 use Rattle.channel.specs.declared.Channel.{Channel}
-use Rattle.quiet.specs.Quiet.{skip}
+use Rattle.quiet.specs.Inner.{skip}
 use Rattle.board.specs.declared.Board.{Board}
 use Rattle.board.specs.Board.{channelAt, owing}
 use Rattle.board.specs.Answer.{replyOf}
 use Rattle.board.specs.Outcome.{Value, Outcome, worked}
 use Rattle.owed.specs.declared.Ticked.{Ticked}
 use Rattle.owed.specs.Ticked.{Has, tickedOn}
-use Rattle.owed.specs.Alike.{QuietRun}
+use Rattle.owed.specs.Inner.{QuietRun}
 use Rattle.owed.specs.Worked.{workOff}
 use Rattle.owed.proofs.Runs.{three-are}
 use Rattle.step.proofs.Three.{steps-three}
 use Rattle.trace.specs.declared.operation.Operation.{Operation}
 use Rattle.turn.specs.declared.finding.Turn.the-variants.{WorkOff}
-use Rattle.turn.specs.Asked.{asked, six}
-use Rattle.turn.specs.Made.{inSix, makeAll}
-use Rattle.turn.specs.Turn.{turnedInSix}
-use Rattle.turn.proofs.Padded.{six-padded}
-use Rattle.turn.proofs.Steps.{made-by-steps}
+use Rattle.recorded.specs.Asked.{asked, sixLent}
+use Rattle.recorded.specs.Made.{inSix, makeAll}
+use Rattle.recorded.specs.Inner.{turnedInSix}
+use Rattle.recorded.proofs.Padded.{six-padded}
+use Rattle.recorded.proofs.Steps.{made-by-steps}
 
 -- a board keeps its three channels over any operations
 pub three-left : (start : Board) → length (start .channels) ≡ 3 → (os : List Operation) → length (makeAll start os .channels) ≡ 3
@@ -45,15 +45,15 @@ module _ (b : Board) (three : length (b .channels) ≡ 3) (stated : ℕ) where
       → (d0 d1 d2 : Channel) → d0 ≡ skip run (channelAt b 0) → d1 ≡ skip run (channelAt b 1) → d2 ≡ skip run (channelAt b 2)
       → (reply : Reply Value) → reply ≡ accepted (worked run 0)
       → turnedInSix b (WorkOff stated)
-      ≡ record { reply = reply; board = owing b (b .owed .0 - run) (set (set (set (b .channels) 0 d0) 1 d1) 2 d2); events = six }
+      ≡ record { reply = reply; board = owing b (b .owed .0 - run) (set (set (set (b .channels) 0 d0) 1 d1) 2 d2); events = sixLent }
   all-quiet run quiet some d0 d1 d2 is0 is1 is2 reply says =
       let channels = three-set (b .channels) d0 d1 d2 three ∙ (λ i. is0 i ∷ is1 i ∷ is2 i ∷ []) in
-      ap inSix (quiet .all-quiet some b (b .model) has six 0 (omega arith))
-      ∙ (λ i. record { reply = sym says i; board = owing b (b .owed .0 - run) (sym channels i); events = six })
+      ap inSix (quiet .all-quiet some b (b .model) has sixLent 0 (omega arith))
+      ∙ (λ i. record { reply = sym says i; board = owing b (b .owed .0 - run) (sym channels i); events = sixLent })
 
   -- some ticks are made one by one
   pub some-made : (t : Ticked) (lent : List ℕ) → length lent ≡ 6
-      → ((d : Board) → Has d (channelAt b 0) (channelAt b 1) (channelAt b 2) (b .model) (b .owed .0) → tickedOn d t lent ≡ workOff d stated six 0)
+      → ((d : Board) → Has d (channelAt b 0) (channelAt b 1) (channelAt b 2) (b .model) (b .owed .0) → tickedOn d t lent ≡ workOff d stated sixLent 0)
       → turnedInSix b (WorkOff stated)
       ≡ record { reply = replyOf (t .answer); board = owing b (t .owed .0) (set (set (set (b .channels) 0 (t .c0)) 1 (t .c1)) 2 (t .c2)); events = lent }
   some-made t lent long made =

@@ -6,14 +6,14 @@ use mathlib.Core.Path.{_≡_}
 use lib.ListN.{length, drop}
 use Rattle.refusal.specs.Reply.{Reply}
 use Rattle.trace.specs.declared.operation.Operation.{Operation}
-use Rattle.trace.specs.Judgement.{Judgement, refusedAt, sound}
+use Rattle.trace.specs.Judgement.{Judgement, refusedBy, sound}
 use Rattle.trace.specs.Trace.{Trace, readTrace}
 use Rattle.board.specs.declared.Board.{Board}
 use Rattle.board.specs.Outcome.{Value, Outcome}
 use Rattle.board.specs.Making.{fresh}
 use Rattle.line.specs.Line.{lineRoom}
 use Rattle.line.specs.Lines.{headLine, operationLine, endLine, faultLine}
-use Rattle.turn.specs.Made.{make}
+use Rattle.recorded.specs.Made.{make}
 use Rattle.runner.specs.declared.Form.{Form}
 use Rattle.runner.specs.declared.Form.the-variants.{Lines, Answers}
 use Rattle.runner.specs.Answers.{traceAnswerSize, traceAnswerBytes}
@@ -44,7 +44,7 @@ printedTrace t =
 
 -- "a fault prints only `trace refused N at P`"
 abbrev pub printedJudgement : Judgement Trace → List ℕ
-printedJudgement (refusedAt number place) = faultLine number place
+printedJudgement (refusedBy f) = faultLine f
 printedJudgement (sound t) = printedTrace t
 
 -- "The replay program reads one trace from standard input"

@@ -31,8 +31,7 @@ pub fn replay_into(trace: &[u8], out: &mut [u8]) -> Replayed
             if out.len() < LINE_ROOM {
                 return Replayed::Short;
             }
-            let refusal = fault.refusal;
-            let line = line::line_of(Sentence::Fault(refusal, fault.place));
+            let line = line::line_of(Sentence::Fault(fault));
             Replayed::Written(put_line(out, 0, line))
         }
         Judged::Sound(head) => {

@@ -30,8 +30,12 @@ ghost use Rattle.line.specs.Line.{lineRoom};
 ghost use Rattle.text.specs.Put.{put, answered};
 ghost use Rattle.trace.specs.Judgement.{sound};
 ghost use Rattle.trace.specs.Trace.{operationsFrom, traceOf};
-ghost use Rattle.trace.specs.Answer.{soundness, operationsOf};
+ghost use Rattle.trace.specs.Operation.{operationIn};
+ghost use Rattle.trace.specs.Inner.{soundness};
+ghost use Rattle.turn.specs.Inner.{Finds};
+ghost use Rattle.recorded.specs.Finding.{turnOf};
 ghost use Rattle.runner.specs.Printed.{said, roomOf, toldFrom, printedTrace, printed, Prints};
+ghost use Rattle.runner.specs.Inner.{toTell, Puts};
 ghost use Rattle.io.specs.Counts.{Counts};
 
 // Room for what is printed of every trace: a line for the head, for each operation and for the end.
@@ -62,7 +66,7 @@ fn say(
     events: [u8; 6],
     left: SystemTicks,
 ) -> usize
-    ensures { λ r. ⌜ (answered r (now (out .exit)) ≡ put (said form index (replyOf answer) events (left .0)) (now (out .entry)) place) × (length (said form index (replyOf answer) events (left .0)) ≤ roomOf form) ⌝ }
+    ensures { λ r. ⌜ Puts (said form index (replyOf answer) events (left .0)) (roomOf form) (now (out .entry)) place r (now (out .exit)) ⌝ }
 {
     match form {
         Form::Lines => {
@@ -94,6 +98,13 @@ fn all_made(run: u32) -> Answer
     Answer::Worked(Worked { made, place: 0 })
 }
 
+// The turn of the operation at an index, on a board that owes ticks or owes none.
+fn turn_at(trace: &[u8], index: u32, owing: bool) -> Turn
+    ensures { λ r. ⌜ Finds (turnOf owing (operationIn (now (trace .entry)) index)) r ⌝ }
+{
+    recorded::turn_of(trace::operation_in(trace, index), owing)
+}
+
 // What is said of the operations from the first index on, as many as are asked for. A replay from the start begins at 0; one from a later board will not.
 fn tell(
     form: Form,
@@ -107,17 +118,16 @@ fn tell(
     requires { ⌜ soundness (operationsFrom (now trace) first number) ≡ sound tt ⌝ }
     requires { ⌜ first + number ≤ 4096 ⌝ }
     requires { ⌜ place + roomOf form * number ≤ length (now out) ⌝ }
-    ensures { λ r. ⌜ (answered r (now (out .exit)) ≡ put (toldFrom form start first (operationsOf (operationsFrom (now (trace .entry)) first number))) (now (out .entry)) place) × (length (toldFrom form start first (operationsOf (operationsFrom (now (trace .entry)) first number))) ≤ roomOf form * number) ⌝ }
+    ensures { λ r. ⌜ Puts (toldFrom form start first (toTell (now (trace .entry)) first number)) (roomOf form * number) (now (out .entry)) place r (now (out .exit)) ⌝ }
 {
     let mut b = start;
     let mut at = place;
     let mut j: u32 = 0;
     while j < number {
         let index = first + j;
-        let operation = trace::operation_in(trace, index);
         j += 1;
         let owing = b.owed;
-        let turn = turn::turn_of(operation, owing.0 != 0);
+        let turn = turn_at(trace, index, owing.0 != 0);
         let none = [0u8; 6];
         match turn {
             Turn::OnChannel(n, work) => {
@@ -127,7 +137,7 @@ fn tell(
                         let c = b.channels[i];
                         let written = load::write_byte(c, byte, b.defer);
                         b.channels[i] = written;
-                        let raised = turn::raise(n, c, written);
+                        let raised = recorded::raise(n, c, written);
                         let answer = raised.answer;
                         let events = raised.events;
                         let left = b.remainder;
@@ -145,7 +155,7 @@ fn tell(
                         let model = b.model;
                         let next = mode::set_mode(c, word, model);
                         b.channels[i] = next;
-                        let raised = turn::raise(n, c, next);
+                        let raised = recorded::raise(n, c, next);
                         let answer = raised.answer;
                         let events = raised.events;
                         let left = b.remainder;
@@ -155,7 +165,7 @@ fn tell(
                         let c = b.channels[i];
                         let next = gate::set_gate(c, level);
                         b.channels[i] = next;
-                        let raised = turn::raise(n, c, next);
+                        let raised = recorded::raise(n, c, next);
                         let answer = raised.answer;
                         let events = raised.events;
                         let left = b.remainder;
@@ -188,7 +198,7 @@ fn tell(
             Turn::Elapse(given, warp, defers) => {
                 let remainder = b.remainder;
                 let since = b.warp;
-                let elapsed = turn::elapse(
+                let elapsed = clock::elapse(
                     given,
                     warp,
                     defers,
@@ -286,7 +296,7 @@ fn replay_sound(trace: &[u8], head: Head, out: &mut [u8]) -> usize
     requires { ⌜ soundness (operationsFrom (now trace) 0 (head .operations)) ≡ sound tt ⌝ }
     requires { ⌜ head .operations ≤ 4096 ⌝ }
     requires { ⌜ lineRoom * (head .operations + 2) ≤ length (now out) ⌝ }
-    ensures { λ r. ⌜ Prints (printedTrace (traceOf head (operationsOf (operationsFrom (now (trace .entry)) 0 (head .operations))))) (now (out .entry)) r (now (out .exit)) ⌝ }
+    ensures { λ r. ⌜ Prints (printedTrace (traceOf head (toTell (now (trace .entry)) 0 (head .operations)))) (now (out .entry)) r (now (out .exit)) ⌝ }
 {
     let model = head.model;
     let number = head.operations;
@@ -307,8 +317,7 @@ pub fn replay(trace: &[u8], out: &mut [u8; TEXT_ROOM]) -> usize
     let judged = trace::judge(trace);
     match judged {
         Judged::Refused(fault) => {
-            let refusal = fault.refusal;
-            let line = line::line_of(Sentence::Fault(refusal, fault.place));
+            let line = line::line_of(Sentence::Fault(fault));
             put_line(out, 0, line)
         }
         Judged::Sound(head) => replay_sound(trace, head, out),

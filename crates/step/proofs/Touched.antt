@@ -22,7 +22,7 @@ use Rattle.ports.specs.declared.port.Port.{Port}
 use Rattle.ports.specs.declared.port.Port.the-variants.{Data, Command as CommandPort, Unknown}
 use Rattle.ports.specs.Port.{portOf}
 use Rattle.ports.specs.Settle.{settle}
-use Rattle.ports.proofs.Settled.{untouched-holds, settle-holds}
+use Rattle.ports.proofs.Settling.{untouched-holds, settle-holds}
 use Rattle.ports.specs.Gates.{setChannelGate}
 use Rattle.ports.specs.Reads.{readFrom, readPort}
 use Rattle.ports.specs.Writes.{controlRegisterWrite, writeTo, writePort}

@@ -11,7 +11,7 @@ use borrow.Author.Tests.{ltb-false, eqb-false}
 use Rattle.channel.proofs.Pick.{pick-knowing}
 use Rattle.board.specs.declared.Board.{Board}
 use Rattle.owed.specs.BoardTick.{boardTick}
-use Rattle.owed.specs.Worked.{Work, needed, oneMore, full, stops, workOn, begun}
+use Rattle.owed.specs.Worked.{Work, needed, oneMore, full, stops, workUpTo, begun}
 use Rattle.owed.proofs.Puts.{putAll-fits}
 use Rattle.step.specs.Time.{TimeKept}
 
@@ -23,7 +23,7 @@ pub record Underway (b : Board) (events : List ℕ) (w : Work) : Type 0 where
   pub inside : w .room .place ≤ length events
   pub leaves-three : length (b .channels) ≡ 3 → length (w .board .channels) ≡ 3
 
-neither : (s t : Bool) → s || t ≡ false → (s ≡ false) × (t ≡ false)
+pub neither : (s t : Bool) → s || t ≡ false → (s ≡ false) × (t ≡ false)
 neither true t e = absurd (true≢false e)
 neither false t e = (refl, e)
 
@@ -50,12 +50,12 @@ module _ (b : Board) (events : List ℕ) where
         leaves-three = λ three. refl;
       }
 
-  more : (left : ℕ) (w : Work) → Underway b events w → Underway b events (workOn left w)
+  more : (left : ℕ) (w : Work) → Underway b events w → Underway b events (workUpTo left w)
   more zero w so-far = so-far
   more (suc left) w so-far =
-      pick-knowing (Underway b events) (stops w) w (workOn left (oneMore w)) (λ stop. so-far) (λ on. more left (oneMore w) (one-more w on so-far))
+      pick-knowing (Underway b events) (stops w) w (workUpTo left (oneMore w)) (λ stop. so-far) (λ on. more left (oneMore w) (one-more w on so-far))
 
-  pub worked-on : (stated place : ℕ) → place ≤ length events → Underway b events (workOn stated (begun b events place))
+  pub worked-on : (stated place : ℕ) → place ≤ length events → Underway b events (workUpTo stated (begun b events place))
   worked-on stated place inside =
       more stated (begun b events place)
       (record {

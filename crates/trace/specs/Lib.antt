@@ -5,5 +5,6 @@ pub mod Rule
 pub mod Operation
 pub mod Trace
 pub mod Answer
+pub mod Inner
 pub mod Refusals
 pub mod Bytes

@@ -2,7 +2,6 @@
 use Prim.Native.Nat.{ℕ, _+_, _*_, _%_}
 use mathlib.Core.Bool.{cond}
 use mathlib.Core.List.{List}
-use mathlib.Core.Path.{_≡_}
 use lib.Dec.{eqb, ltb}
 use lib.ListN.{length, getD}
 use Rattle.numbers.specs.Number.{numberAt}
@@ -26,10 +25,6 @@ operationOf code target number =
     (cond (eqb code 6) (CatchUp (record { 0 = number }))
     (cond (eqb code 7) (Run (record { 0 = number }))
     (cond (eqb code 8) Reset (WorkOff number))))))))
-
--- a code that is none of the first four
-abbrev pub NoneOfFour : ℕ → Type 0
-NoneOfFour code = (code ≡ 1 → ⊥) × (code ≡ 2 → ⊥) × (code ≡ 3 → ⊥) × (code ≡ 4 → ⊥)
 
 -- 12 "operation code not 1 to 8" ("12 now means not 1 to 9": 02, L1), 14 "a trace's ... target or number breaks its rule": each at its field
 abbrev pub judgedBy : {A : Type 0} → Rule → ℕ → A → Judgement A

@@ -8,8 +8,9 @@ use numbers::number_at;
 use refusal::Refusal;
 use time::SystemTicks;
 ghost use mathlib.Core.Path.{_≡_};
-ghost use Rattle.trace.specs.Operation.{operationOf, NoneOfFour, fitted, placeOf, operationAt, operationIn};
+ghost use Rattle.trace.specs.Operation.{operationOf, fitted, placeOf, operationAt, operationIn};
 ghost use Rattle.trace.specs.Answer.{operationJudged};
+ghost use Rattle.trace.specs.Inner.{NoneOfFour};
 
 // Ports and channels are as the trace has them: a bad one is refused when it is run.
 pub enum Operation {

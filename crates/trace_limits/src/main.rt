@@ -1,5 +1,9 @@
 // The limits of a trace's form: each refusal number of a trace at its first and at its last possible place, the order of the tests, and the values that are
-// just sound. What is printed under a name is the replay of that trace; of the one with 4,096 operations only the end.
+// just sound. What is printed under a name is the replay of that trace; of the one with 4,096 operations only the end. Then every prefix of the trace on
+// standard input, which is case R.
+mod prefixes;
+
+use libc::STDIN_FILENO;
 use libc::STDOUT_FILENO;
 
 // The longest trace. The arrays have room for one byte more.
@@ -275,4 +279,7 @@ fn main() {
     rules();
     when_run();
     last_places();
+    let mut input = io::buffer();
+    let length = io::read_full(STDIN_FILENO, &mut input);
+    prefixes::show_all(&input[..length]);
 }

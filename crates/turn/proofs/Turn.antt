@@ -1,36 +1,26 @@
--- The turn of an operation comes to the step of the board, on every board, with any event bytes lent at any place. Assumes nothing.
+-- The turn of an operation comes to the call of the board, on every board, with any event bytes lent at any place. Assumes nothing.
 use Prim.Native.Nat.{ℕ}
-use mathlib.Core.Bool.{Bool, true, false, cond, not, _||_}
+use mathlib.Core.Bool.{Bool, true, false, cond, not}
 use mathlib.Core.List.{List, []}
-use mathlib.Core.Path.{_≡_, refl, sym, _∙_, ap}
+use mathlib.Core.Path.{_≡_, refl, _∙_, ap}
 use lib.Dec.{eqb, ltb}
-use lib.Seq.{set-getD}
 use Rattle.refusal.specs.Reply.{Reply, refused, accepted}
 use Rattle.refusal.specs.declared.Refusal.{Refusal}
 use Rattle.refusal.specs.declared.Refusal.the-variants as refusal
 use Rattle.refusal.specs.Refusal.{refusalNumber}
-use Rattle.channel.specs.declared.Channel.{Channel}
-use Rattle.channel.specs.Blank.{blank}
 use Rattle.control.specs.declared.Command.{Command}
 use Rattle.control.specs.declared.Command.the-variants as command
 use Rattle.control.specs.Control.{commandOf}
-use Rattle.latch.specs.Latching.{latchCount}
-use Rattle.load.specs.Write.{writeByte}
-use Rattle.gate.specs.Gate.{setGate}
-use Rattle.mode.specs.Mode.{setMode}
 use Rattle.time.specs.declared.SystemTicks.{SystemTicks}
 use Rattle.time.specs.Time.{Yield}
-use Rattle.event.specs.Event.{placeEvent}
 use Rattle.board.specs.declared.Board.{Board}
-use Rattle.board.specs.Board.{channelAt, withChannels, withChannel}
-use Rattle.board.specs.Outcome.{Outcome, refuse}
+use Rattle.board.specs.Outcome.{Outcome, refuse, onChannel, unlessOwed}
 use Rattle.board.specs.Making.{reset}
 use Rattle.board.specs.Counting.{counts, loadCycle}
 use Rattle.clock.specs.Clock.{elapsed, yielding, catchUp, run}
 use Rattle.ports.specs.declared.port.Port.{Port}
 use Rattle.ports.specs.declared.port.Port.the-variants as port
 use Rattle.ports.specs.Port.{portOf}
-use Rattle.ports.specs.Settle.{levelEvent, placedOn, settle}
 use Rattle.ports.specs.Gates.{setChannelGate}
 use Rattle.ports.specs.Reads.{readFrom, readPort}
 use Rattle.ports.specs.Writes.{controlRegisterWrite, writeTo, writePort}
@@ -38,19 +28,8 @@ use Rattle.turn.specs.declared.finding.Work.the-variants as work
 use Rattle.turn.specs.declared.finding.Turn.{Turn}
 use Rattle.turn.specs.declared.finding.Turn.the-variants as turn
 use Rattle.turn.specs.Finding as finding
-use Rattle.turn.specs.Turn.{owes, settledOn, changed, workedOn, timeKept, timeYielded, timedOn, withEvents, turned}
-
--- a refused event leaves the channel's own record at its place, which is the board as it was
-placed : (b : Board) (n : ℕ) (c : Channel) (reply : Reply ℕ) (bytes : List ℕ)
-    → placedOn b (withChannel b n c) (record { reply = reply; bytes = bytes })
-    ≡ workedOn b n (settledOn (channelAt b n) c (record { reply = reply; bytes = bytes }))
-placed b n c (refused number) bytes = ap (λ (channels : List Channel). refuse number (withChannels b channels) bytes) (sym (set-getD (b .channels) n blank))
-placed b n c (accepted place) bytes = refl
-
--- what a write, a latch, a mode set and a gate share
-settled : (b : Board) (n : ℕ) (c : Channel) (events : List ℕ) (place : ℕ) → settle b n c events place ≡ workedOn b n (changed n (channelAt b n) c events place)
-unfolding settle
-settled b n c events place = let p = placeEvent (levelEvent n (channelAt b n) c) events place in placed b n c (p .reply) (p .bytes)
+use Rattle.turn.specs.Inner.{owes, Bare}
+use Rattle.turn.specs.Turn.{turned}
 
 -- what is refused on a condition ..
 unless : (x : Bool) (r : Refusal) (b : Board) (t : Turn) (events : List ℕ) (place : ℕ)
@@ -65,19 +44,15 @@ unless-owed true b t events place = refl
 unless-owed false b t events place = refl
 
 module _ (b : Board) (events : List ℕ) (place : ℕ) where
-  -- an outcome where no tick is owed
-  owed-or : (o : Outcome) (t : Turn) → o ≡ turned b t events place
-      → cond (eqb (b .owed .0) 0) o (refuse 16 b events) ≡ turned b (finding.unlessOwing (owes b) t) events place
-  owed-or o t e = ap (λ (p : Outcome). cond (eqb (b .owed .0) 0) p (refuse 16 b events)) e ∙ unless-owed (eqb (b .owed .0) 0) b t events place
-
   commanded : (k : Command) → controlRegisterWrite b k events place ≡ turned b (finding.commandTurn k) events place
   commanded command.Nothing = refl
-  commanded (command.LatchCount n) = settled b n (latchCount (channelAt b n)) events place
-  commanded (command.SetMode n word) = settled b n (setMode (channelAt b n) word (b .model)) events place
+  commanded (command.LatchCount n) = refl
+  commanded (command.SetMode n word) = refl
 
   written : (p : Port) (byte : ℕ) → writeTo b p byte events place ≡ turned b (finding.writeTurn (owes b) p byte) events place
-  written (port.Data n) byte = owed-or _ (turn.OnChannel n (work.Write byte)) (settled b n (writeByte (channelAt b n) byte (b .defer)) events place)
-  written port.Command byte = owed-or _ (finding.commandTurn (commandOf byte)) (commanded (commandOf byte))
+  written (port.Data n) byte = unless-owed (eqb (b .owed .0) 0) b (turn.OnChannel n (work.Write byte)) events place
+  written port.Command byte =
+      ap (unlessOwed b events) (commanded (commandOf byte)) ∙ unless-owed (eqb (b .owed .0) 0) b (finding.commandTurn (commandOf byte)) events place
   written port.Unknown byte = refl
 
   pub write-is : (number byte : ℕ) → writePort b number byte events place ≡ turned b (finding.writeTurn (owes b) (portOf number) byte) events place
@@ -87,16 +62,10 @@ module _ (b : Board) (events : List ℕ) (place : ℕ) where
   pub gate-is : (n : ℕ) (level : Bool) → setChannelGate b n level events place ≡ turned b (finding.gateTurn (owes b) n level) events place
   unfolding setChannelGate
   gate-is n level =
-      ap (λ (o : Outcome). cond (ltb 2 n) (refuse 2 b events) o)
-      (owed-or _ (turn.OnChannel n (work.SetGate level)) (settled b n (setGate (channelAt b n) level) events place))
+      ap (onChannel b n events) (unless-owed (eqb (b .owed .0) 0) b (turn.OnChannel n (work.SetGate level)) events place)
       ∙ unless (ltb 2 n) refusal.ChannelAbove2 b _ events place
 
--- A call that lends no bytes comes to a turn, whatever bytes the turn is lent.
-pub record Bare (b : Board) (o : Outcome) (t : Turn) : Type 0 where
-  pub same : (events : List ℕ) (place : ℕ) → withEvents events o ≡ turned b t events place
-  pub none : o .events ≡ []
-
--- .. also where it is refused on a condition ..
+-- A call that lends no bytes, where it is refused on a condition ..
 bare-unless : (x : Bool) (r : Refusal) (b : Board) (o : Outcome) (t : Turn) → Bare b o t
     → Bare b (cond x (refuse (refusalNumber r) b []) o) (cond x (finding.refuse r) t)
 bare-unless true r b o t is = record { same = λ events place. refl; none = refl }
@@ -108,19 +77,7 @@ bare-owed : (none : Bool) (b : Board) (o : Outcome) (t : Turn) → Bare b o t
 bare-owed true b o t is = is
 bare-owed false b o t is = record { same = λ events place. refl; none = refl }
 
--- a refusal leaves remainder, warp, defer flag and owed ticks, which is the board as it was
-yielded : (b : Board) (next : ℕ) (defers zero none : Bool) (reply : Reply Yield) (events : List ℕ)
-    → withEvents events (cond zero (refuse 3 b []) (cond none (yielding b next (defers || b .defer) reply) (refuse 16 b [])))
-    ≡ timedOn b
-    (cond zero (timeKept 3 (b .remainder .0) (b .warp .0) (b .defer) (b .owed .0))
-    (cond none (timeYielded next defers (b .remainder .0) (b .warp .0) (b .defer) (b .owed .0) reply)
-    (timeKept 16 (b .remainder .0) (b .warp .0) (b .defer) (b .owed .0))))
-    events
-yielded b next defers true none reply events = refl
-yielded b next defers false false reply events = refl
-yielded b next defers false true (refused number) events = refl
-yielded b next defers false true (accepted made) events = refl
-
+-- a call of time lends none
 no-event : (b : Board) (next : ℕ) (defer zero none : Bool) (reply : Reply Yield)
     → cond zero (refuse 3 b []) (cond none (yielding b next defer reply) (refuse 16 b [])) .events ≡ []
 no-event b next defer true none reply = refl
@@ -153,22 +110,12 @@ module _ (b : Board) where
   pub catch-up-is : (given : SystemTicks) → Bare b (catchUp b (given .0)) (finding.catchUpTurn given)
   unfolding catchUp
   catch-up-is given =
-      let zero = eqb (b .divisor) 0 in
-      let none = eqb (b .owed .0) 0 in
-      record {
-        same = λ events place. yielded b (given .0) true zero none (elapsed b (given .0)) events;
-        none = no-event b (given .0) true zero none (elapsed b (given .0));
-      }
+      record { same = λ events place. refl; none = no-event b (given .0) true (eqb (b .divisor) 0) (eqb (b .owed .0) 0) (elapsed b (given .0)) }
 
   pub run-is : (given : SystemTicks) → Bare b (run b (given .0)) (finding.runTurn given)
   unfolding run
   run-is given =
-      let zero = eqb (b .divisor) 0 in
-      let none = eqb (b .owed .0) 0 in
-      record {
-        same = λ events place. yielded b 0 false zero none (elapsed b (given .0)) events;
-        none = no-event b 0 (b .defer) zero none (elapsed b (given .0));
-      }
+      record { same = λ events place. refl; none = no-event b 0 (b .defer) (eqb (b .divisor) 0) (eqb (b .owed .0) 0) (elapsed b (given .0)) }
 
   pub reset-is : Bare b (reset b) (finding.resetTurn (owes b))
   unfolding reset

@@ -1,8 +1,7 @@
--- The turn of an operation: its port or channel found, and what is refused without a look at the board, but for whether it owes ticks, refused. Its parts serve
--- the operations of a trace and of a host alike.
+-- The turn of an operation: its port or channel found, and what is refused without a look at the board, but for whether it owes ticks, refused. Every call goes by
+-- them: by value, in a trace and of a host.
 use Prim.Native.Nat.{ℕ}
 use mathlib.Core.Bool.{Bool, true, false, cond}
-use mathlib.Core.Path.{_≡_}
 use lib.Dec.{ltb}
 use Rattle.refusal.specs.declared.Refusal.{Refusal}
 use Rattle.refusal.specs.declared.Refusal.the-variants.{PortUnknown, ChannelAbove2, TooManyCounts, TicksOwed}
@@ -14,18 +13,15 @@ use Rattle.time.specs.declared.SystemTicks.{SystemTicks}
 use Rattle.ports.specs.declared.port.Port.{Port}
 use Rattle.ports.specs.declared.port.Port.the-variants as port
 use Rattle.ports.specs.Port.{portOf}
-use Rattle.trace.specs.declared.operation.Operation.{Operation}
-use Rattle.trace.specs.declared.operation.Operation.the-variants as recorded
 use Rattle.turn.specs.declared.finding.Work.the-variants as work
 use Rattle.turn.specs.declared.finding.Turn.{Turn}
-use Rattle.turn.specs.declared.finding.Turn.the-variants.{OnChannel, Elapse, Reset, WorkOff, Untouched, Say}
-use Rattle.turn.specs.Turn.{OnBoard}
+use Rattle.turn.specs.declared.finding.Turn.the-variants.{OnChannel, Elapse, Reset, Untouched, Say}
 
 -- "Each returns its number and the same board"
 abbrev pub refuse : Refusal → Turn
 refuse refusal = Say (Refused refusal)
 
--- 16 "for a port write, gate, reset, catch-up or run while ticks are owed, right after 1, 2 or 3" (02, L1). Those of time have it in `timeAfter`
+-- 16 "for a port write, gate, reset, catch-up or run while ticks are owed, right after 1, 2 or 3" (02, L1). Those of time have it in clock's `timely`
 abbrev pub unlessOwing : Bool → Turn → Turn
 unlessOwing owing turn = cond owing (refuse TicksOwed) turn
 
@@ -74,19 +70,3 @@ runTurn given = Elapse given (record { 0 = 0 }) false
 -- a reset has refusal 16 alone
 abbrev pub resetTurn : Bool → Turn
 resetTurn owing = unlessOwing owing Reset
-
--- the turn of a recorded operation
-unfoldable pub turnOf : Bool → Operation → Turn
-turnOf owing (recorded.WritePort number byte) = writeTurn owing (portOf number) byte
-turnOf owing (recorded.ReadPort number) = readTurn (portOf number)
-turnOf owing (recorded.SetChannelGate channel level) = gateTurn owing channel level
-turnOf owing (recorded.Counts channel number) = countsTurn channel number
-turnOf owing (recorded.LoadCycle channel) = loadCycleTurn channel
-turnOf owing (recorded.CatchUp given) = catchUpTurn given
-turnOf owing (recorded.Run given) = runTurn given
-turnOf owing recorded.Reset = resetTurn owing
-turnOf owing (recorded.WorkOff stated) = WorkOff stated
-
--- what is promised of the turn that the code finds: it is this one, and its channel is one of the board's
-abbrev pub Finds : Turn → Turn → Type 0
-Finds t found = (found ≡ t) × OnBoard found

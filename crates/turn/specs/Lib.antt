@@ -1,4 +1,3 @@
-pub mod Asked
-pub mod Made
 pub mod Turn
 pub mod Finding
+pub mod Inner

@@ -1,5 +1,5 @@
 // An operation with its port or channel found. What is refused without a look at the board is refused here, and what is refused while ticks are owed: of the board
-// only that is asked. The operations of a trace and those of a host are found by the same functions.
+// only that is asked. Every call, of whatever form, is found by these functions.
 use board::Answer;
 use channel::ControlWord;
 use control::Command;
@@ -7,11 +7,11 @@ use ports::port::Port;
 use ports::port::port_of;
 use refusal::Refusal;
 use time::SystemTicks;
-use trace::operation::Operation;
 ghost use mathlib.Core.Path.{_≡_};
 ghost use Rattle.control.specs.Control.{commandOf};
 ghost use Rattle.ports.specs.Port.{portOf};
-ghost use Rattle.turn.specs.Finding.{commandTurn, writeTurn, readTurn, gateTurn, countsTurn, loadCycleTurn, catchUpTurn, runTurn, resetTurn, turnOf, Finds};
+ghost use Rattle.turn.specs.Finding.{commandTurn, writeTurn, readTurn, gateTurn, countsTurn, loadCycleTurn, catchUpTurn, runTurn, resetTurn};
+ghost use Rattle.turn.specs.Inner.{Finds};
 
 // What is done to one channel.
 pub enum Work {
@@ -93,7 +93,7 @@ pub fn read_turn(port: u16) -> Turn
 }
 
 // Refusals 2 and 16.
-pub fn gate_turn(channel: u16, level: bool, owing: bool) -> Turn
+pub fn gate_turn(channel: usize, level: bool, owing: bool) -> Turn
     ensures { λ r. ⌜ Finds (gateTurn owing channel level) r ⌝ }
 {
     if 2 < channel {
@@ -106,7 +106,7 @@ pub fn gate_turn(channel: u16, level: bool, owing: bool) -> Turn
 }
 
 // Refusals 2 and 6.
-pub fn counts_turn(channel: u16, number: u32) -> Turn
+pub fn counts_turn(channel: usize, number: u32) -> Turn
     ensures { λ r. ⌜ Finds (countsTurn channel number) r ⌝ }
 {
     if 2 < channel {
@@ -119,7 +119,7 @@ pub fn counts_turn(channel: u16, number: u32) -> Turn
 }
 
 // Refusal 2.
-pub fn load_cycle_turn(channel: u16) -> Turn
+pub fn load_cycle_turn(channel: usize) -> Turn
     ensures { λ r. ⌜ Finds (loadCycleTurn channel) r ⌝ }
 {
     if 2 < channel {
@@ -148,21 +148,4 @@ pub fn reset_turn(owing: bool) -> Turn
         return refuse(Refusal::TicksOwed);
     }
     Turn::Reset
-}
-
-// For a board that owes ticks, or owes none. Reads, counts and load cycles are the same on both.
-pub fn turn_of(operation: Operation, owing: bool) -> Turn
-    ensures { λ r. ⌜ Finds (turnOf owing operation) r ⌝ }
-{
-    match operation {
-        Operation::WritePort(port, byte) => write_turn(port as u16, byte, owing),
-        Operation::ReadPort(port) => read_turn(port as u16),
-        Operation::SetChannelGate(channel, level) => gate_turn(channel as u16, level, owing),
-        Operation::Counts(channel, number) => counts_turn(channel as u16, number),
-        Operation::LoadCycle(channel) => load_cycle_turn(channel as u16),
-        Operation::CatchUp(ticks) => catch_up_turn(ticks),
-        Operation::Run(ticks) => run_turn(ticks),
-        Operation::Reset => reset_turn(owing),
-        Operation::WorkOff(stated) => Turn::WorkOff(stated),
-    }
 }

@@ -2,7 +2,7 @@
 use Prim.Native.Nat.{_<_}
 use mathlib.Core.Path.{_≡_}
 use borrow.Author.Needs.{needs}
-use Rattle.owed.specs.Alike.{alike}
+use Rattle.owed.specs.Inner.{alike}
 use Rattle.owed.proofs.Skips.{alike-few, quiet-skips}
 use Rattle.owed.proofs.alike.Statement.{statement}
 use Rattle.owed.proofs.alike.Tie as tie

@@ -20,7 +20,7 @@ returns-3 : tie.Need-returns-3
 returns-3 c b has =
     let t = c .before .before .before .before in
     let a = t .before .before .before .args in
-    rw (c .before .before .work-on .ensures b has) (sym (accepted-is b (a .stated) (a .events .now) (a .place) (t .before .if1 .left) (t .if2 .left)))
+    rw (c .before .before .work-up-to .ensures b has) (sym (accepted-is b (a .stated) (a .events .now) (a .place) (t .before .if1 .left) (t .if2 .left)))
 
 pub work-channels-spec : {M : Type 1} → statement M
 work-channels-spec =

@@ -1,0 +1,4 @@
+pub mod Padded
+pub mod Room
+pub mod Recorded
+pub mod Steps
