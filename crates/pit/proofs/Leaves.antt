@@ -40,17 +40,17 @@ module _ (bytes events answer : List ℕ) where
   made-leaves o false is = rw is (λ set. (refl, refl, refl))
 
   room-leaves : (short : Bool) (o : Outcome-in-numbers) → LeavesAll (cond short (calling NoRoom bytes events) (making o bytes events))
-  room-leaves true o set = (refl, refl, refl)
+  room-leaves true o = λ set. (refl, refl, refl)
   room-leaves false o = made-leaves o (eqb (o .numbers .refusal) 0) refl
 
   on-leaves : (b : Board) (asked : Asked) (room place : ℕ) → LeavesAll (callOn b asked room place bytes events)
-  on-leaves b asks.Unknown room place set = (refl, refl, refl)
+  on-leaves b asks.Unknown room place = λ set. (refl, refl, refl)
   on-leaves b (asks.Known op) room place = room-leaves (ltb room boardAnswerSize) (operate b op events place)
 
   bytes-leave : (short good : Bool) (k : Calling) → LeavesAll k → LeavesAll (cond short (calling Short bytes events) (cond good k (calling Unreadable bytes events)))
-  bytes-leave true good k leaves set = (refl, refl, refl)
+  bytes-leave true good k leaves = λ set. (refl, refl, refl)
   bytes-leave false true k leaves = leaves
-  bytes-leave false false k leaves set = (refl, refl, refl)
+  bytes-leave false false k leaves = λ set. (refl, refl, refl)
 
   pub board-call-leaves : (code target number place : ℕ) → (boardOperation code target number place bytes events answer .status ≡ 0 → ⊥)
       → Left (boardOperation code target number place bytes events answer) bytes events answer
