@@ -9,6 +9,9 @@ use libc::STDOUT_FILENO;
 // The longest trace. The arrays have room for one byte more.
 const LONGEST: usize = 24592;
 
+// The room that a replay is lent: no replay prints more.
+pub(crate) const TEXT: usize = 262272;
+
 // Divisor 12 on the 8253, or what a case is about.
 struct Settings {
     count: u32,
@@ -79,7 +82,7 @@ fn say(text: &[u8]) {
 fn show_end(name: &[u8], trace: &[u8], length: usize, most: usize) {
     say(name);
     say(b": ");
-    let mut output = [0u8; 262272];
+    let mut output = [0u8; TEXT];
     if length <= trace.len() {
         let printed = runner::replay(&trace[0..length], &mut output);
         if most < printed {
@@ -93,7 +96,7 @@ fn show_end(name: &[u8], trace: &[u8], length: usize, most: usize) {
 }
 
 fn show(name: &[u8], trace: &[u8], length: usize) {
-    show_end(name, trace, length, 262272);
+    show_end(name, trace, length, TEXT);
 }
 
 fn sound_settings(operations: u32) -> Settings {
@@ -107,14 +110,14 @@ fn sound_settings(operations: u32) -> Settings {
 
 // No operation, and as many bytes as the case has.
 fn head(name: &[u8], s: Settings, length: usize) {
-    let mut trace = [0u8; 24593];
+    let mut trace = [0u8; LONGEST + 1];
     put_settings(&mut trace, s);
     show(name, &trace, length);
 }
 
 // One operation, and as many bytes as the case has.
 fn one(name: &[u8], o: Operation, length: usize) {
-    let mut trace = [0u8; 24593];
+    let mut trace = [0u8; LONGEST + 1];
     put_settings(&mut trace, sound_settings(1));
     put_operation(&mut trace, 0, o);
     show(name, &trace, length);
@@ -134,7 +137,7 @@ fn whole(name: &[u8], code: u8, target: u8, number: u32) {
 
 // 4,096 operations, the last of them the case's.
 fn last(name: &[u8], code: u8, target: u8, number: u32, length: usize) {
-    let mut trace = [0u8; 24593];
+    let mut trace = [0u8; LONGEST + 1];
     put_settings(&mut trace, sound_settings(4096));
     put_reads(&mut trace, 4095);
     put_operation(
@@ -269,8 +272,8 @@ fn last_places() {
     last(b"last code 10", 10, 0, 0, LONGEST);
     last(b"last target 1", 6, 1, 0, LONGEST);
     last(b"last number 2", 3, 0, 2, LONGEST);
-    last(b"last byte missing", 2, 0x40, 0, 24591);
-    last(b"a byte too many", 2, 0x40, 0, 24593);
+    last(b"last byte missing", 2, 0x40, 0, LONGEST - 1);
+    last(b"a byte too many", 2, 0x40, 0, LONGEST + 1);
 }
 
 fn main() {

@@ -1,5 +1,6 @@
 // Every prefix of a trace, and the trace itself: how many bytes its replay prints, their sum, and the sum of their sums. A prefix of n bytes prints
 // `trace refused 9 at n`.
+use crate::TEXT;
 use libc::STDOUT_FILENO;
 
 struct Sums {
@@ -30,7 +31,7 @@ fn say(text: &[u8], number: u64) {
 }
 
 fn show(prefix: &[u8]) {
-    let mut output = [0u8; 262272];
+    let mut output = [0u8; TEXT];
     let printed = runner::replay(prefix, &mut output);
     say(b"", prefix.len() as u64);
     say(b" bytes print ", printed as u64);
