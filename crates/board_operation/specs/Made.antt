@@ -53,7 +53,7 @@ numbered refusal a b c = record { refusal = refusal; first = a; second = b; thir
 abbrev pub valueNumbers : Value → Numbers
 valueNumbers done = numbered 0 0 0 0
 valueNumbers (newPlace p) = numbered 0 p 0 0
-valueNumbers (byte x) = numbered 0 x 0 0
+valueNumbers (byte r) = numbered 0 (r .byte) 0 0
 valueNumbers (ticks n) = numbered 0 n 0 0
 valueNumbers (outputState level) = numbered 0 (flagNumber level) 0 0
 valueNumbers (channelCount register element counting) = numbered 0 register element (flagNumber counting)

@@ -42,7 +42,7 @@ pub fn numbers_of(answer: Answer) -> Numbers
         },
         Answer::Done => saying(0, 0, 0),
         Answer::Place(at) => saying(at as u64, 0, 0),
-        Answer::Byte(byte) => saying(byte as u64, 0, 0),
+        Answer::Byte(read) => saying(read.byte as u64, 0, 0),
         Answer::Ticks(ticks) => saying(ticks.0 as u64, 0, 0),
         Answer::OutputState(level) => saying(as_number(level) as u64, 0, 0),
         Answer::Count(count) => saying(

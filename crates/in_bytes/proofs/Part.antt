@@ -16,7 +16,7 @@ use Rattle.board_operation.specs.Made.{Outcome-in-numbers, numbersOf, operate}
 use Rattle.in_bytes.specs.declared.finding.Query.{Query}
 use Rattle.in_bytes.specs.declared.finding.Query.the-variants as query
 use Rattle.in_bytes.specs.declared.finding.Part.the-variants.{Turned, Ask}
-use Rattle.in_bytes.specs.Inner.{askPart, partOf, queryAnswered, parted}
+use Rattle.in_bytes.specs.Inner.{partOf, queryAnswered, parted}
 use Rattle.turn.specs.Finding as finding
 use Rattle.refusal.specs.declared.Refusal.the-variants.{ChannelAbove2}
 

@@ -2,7 +2,6 @@
 use Prim.Native.Nat.{ℕ}
 use mathlib.Core.List.{List, [], _∷_}
 use mathlib.Core.Path.{_≡_, refl}
-use Rattle.channel.specs.declared.Channel.{Channel}
 use Rattle.board.specs.Board.{channelAt}
 use Rattle.board_encoding.specs.Loaded.{boardIn}
 

@@ -60,7 +60,7 @@ okText = ascii "ok"
 -- "its index, then `refused N`; or `read`, `ticks` and `left`, `out` with an event's two bytes, else `ok`". The events were lent "at place 0", so there is
 -- one where the new place is not 0; "`made N`, then `out` and two numbers for each event" (02, L1)
 abbrev pub valueText : Value → List ℕ → ℕ → List ℕ
-valueText (byte x) events left = readText x
+valueText (byte r) events left = readText (r .byte)
 valueText (ticks number) events left = ticksText number left
 valueText (newPlace place) events left = cond (eqb place 0) okText (outText events)
 valueText (worked made place) events left = madeText made place events

@@ -97,7 +97,7 @@ fn put_answer(
 {
     match answer {
         Answer::Refused(refusal) => put_refused(out, place, refusal.number()),
-        Answer::Byte(byte) => put_read(out, place, byte),
+        Answer::Byte(read) => put_read(out, place, read.byte),
         Answer::Ticks(number) => put_ticks(out, place, number, left),
         Answer::Place(at) => {
             if at == 0 {

@@ -45,7 +45,7 @@ left-apart true v n k hn hk e =
 abbrev byteIn : Value → ℕ
 byteIn done = 0
 byteIn (newPlace p) = 0
-byteIn (byte x) = x
+byteIn (byte r) = r .byte
 byteIn (ticks n) = 0
 byteIn (outputState level) = 0
 byteIn (channelCount register element counting) = 0

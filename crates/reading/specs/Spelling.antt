@@ -15,4 +15,4 @@ remaining true v n = packed (minusMod (radixCounts true) (weight v) n)
 
 -- two reads that were accepted and spell a word, its low byte first
 abbrev pub Spells : ℕ → Reply Value → Reply Value → Type 0
-Spells word first second = (first ≡ accepted (byte (word % 256))) × (second ≡ accepted (byte (word / 256)))
+Spells word first second = (first ≡ accepted (byte (record { byte = word % 256 }))) × (second ≡ accepted (byte (record { byte = word / 256 })))

@@ -9,7 +9,6 @@ use lib.ListN.{length, getD, take, length-append, take-append-drop}
 use lib.Seq.{take-suc, take-all, length-take-le}
 use Rattle.board.specs.declared.Board.{Board}
 use Rattle.board.specs.Outcome.{Outcome}
-use Rattle.text.specs.Put.{put, answered}
 use Rattle.text.proofs.Puts.{Wrote, and-then, put-fits, put-length}
 use Rattle.trace.specs.declared.operation.Operation.{Operation}
 use Rattle.trace.specs.declared.operation.Operation.the-variants as recorded

@@ -24,7 +24,7 @@ bytesWritten place = cond (ltb 6 place) 6 place
 -- "0 where none of them is answered"
 abbrev pub saidBy : Value → Said
 saidBy (newPlace place) = saying 0 (bytesWritten place) 0
-saidBy (byte x) = saying 0 0 x
+saidBy (byte r) = saying 0 0 (r .byte)
 saidBy (ticks number) = saying 0 0 number
 saidBy done = saying 0 0 0
 saidBy (outputState level) = saying 0 0 0

@@ -45,7 +45,7 @@ fn said_in(answer: Answer) -> Said
             value: 0,
         },
         Answer::Place(at) => saying(bytes_written(at), 0),
-        Answer::Byte(byte) => saying(0, byte as u32),
+        Answer::Byte(read) => saying(0, read.byte as u32),
         Answer::Ticks(number) => saying(0, number.0),
         Answer::Worked(worked) => {
             let made = worked.made;

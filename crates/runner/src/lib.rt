@@ -7,6 +7,7 @@ pub mod lending;
 
 use board::Answer;
 use board::Board;
+use board::PortRead;
 use board::Worked;
 pub use lending::answers_into;
 pub use lending::replay_into;
@@ -177,7 +178,7 @@ fn tell(
                         let next = got.channel;
                         b.channels[i] = next;
                         let left = b.remainder;
-                        at = say(form, out, at, index, Answer::Byte(got.byte), none, left);
+                        at = say(form, out, at, index, Answer::Byte(PortRead { byte: got.byte }), none, left);
                     }
                     Work::Counts(number) => {
                         let c = b.channels[i];
