@@ -59,7 +59,11 @@ fn said_in(answer: Answer) -> Said
     }
 }
 
-pub(crate) fn trace_answer_bytes(answer: Answer, events: [u8; 6], left: SystemTicks) -> [u8; TRACE_ANSWER_SIZE]
+pub(crate) fn trace_answer_bytes(
+    answer: Answer,
+    events: [u8; 6],
+    left: SystemTicks,
+) -> [u8; TRACE_ANSWER_SIZE]
     ensures { λ r. ⌜ r ≡ traceAnswerBytes (replyOf answer) events (left .0) ⌝ }
 {
     let said = said_in(answer);
