@@ -1,6 +1,11 @@
 // Replays the frozen samples of the original's answers through the exported functions, and prints how many cases of each differ. The arguments
 // name the files: of channels, of boards and of traces, in this order. README.md says what they hold and how they were made.
 use libc::STDOUT_FILENO;
+use pit::BOARD_ANSWER_SIZE;
+use pit::BOARD_SIZE;
+use pit::CHANNEL_ANSWER_SIZE;
+use pit::CHANNEL_SIZE;
+use pit::TEXT_ROOM;
 
 // More than any sample has: the loop ends even if the input does not.
 const MOST: u64 = 1000000;
@@ -13,9 +18,6 @@ const NOT_LENT: u32 = 255;
 
 // More bytes than any trace of the sample has.
 const TRACE: usize = 65536;
-
-// More bytes than any replay prints.
-const TEXT: usize = 262272;
 
 // What came of a case. One that the end of the file cuts off differs.
 enum Case {
@@ -33,19 +35,19 @@ fn case_of(agrees: bool) -> Case {
 
 // The record before the operation; its code, number and setting; the record after it; the answer.
 fn channel_case(file: i32) -> Case {
-    let mut record = [0u8; 29];
+    let mut record = [0u8; CHANNEL_SIZE];
     let mut operation = [0u8; 3];
-    let mut after = [0u8; 29];
-    let mut told = [0u8; 7];
+    let mut after = [0u8; CHANNEL_SIZE];
+    let mut told = [0u8; CHANNEL_ANSWER_SIZE];
     if io::read_full(file, &mut record) == 0 {
         return Case::End;
     }
     io::read_full(file, &mut operation);
     io::read_full(file, &mut after);
-    if io::read_full(file, &mut told) < 7 {
+    if io::read_full(file, &mut told) < CHANNEL_ANSWER_SIZE {
         return Case::Differs;
     }
-    let mut answer = [OLD_ANSWER; 7];
+    let mut answer = [OLD_ANSWER; CHANNEL_ANSWER_SIZE];
     let status = pit::pit_channel_operation(
         &mut record,
         &mut answer,
@@ -102,13 +104,13 @@ fn operate(
 // The board before the operation; how many event bytes are lent, and the eight of which they are the first; the operation; the board, the event bytes and
 // the answer after it.
 fn board_case(file: i32) -> Case {
-    let mut board = [0u8; 105];
+    let mut board = [0u8; BOARD_SIZE];
     let mut lent = [0u8; 1];
     let mut events = [0u8; 8];
     let mut operation = [0u8; 16];
-    let mut after = [0u8; 105];
+    let mut after = [0u8; BOARD_SIZE];
     let mut events_after = [0u8; 8];
-    let mut told = [0u8; 16];
+    let mut told = [0u8; BOARD_ANSWER_SIZE];
     if io::read_full(file, &mut board) == 0 {
         return Case::End;
     }
@@ -117,10 +119,10 @@ fn board_case(file: i32) -> Case {
     io::read_full(file, &mut operation);
     io::read_full(file, &mut after);
     io::read_full(file, &mut events_after);
-    if io::read_full(file, &mut told) < 16 {
+    if io::read_full(file, &mut told) < BOARD_ANSWER_SIZE {
         return Case::Differs;
     }
-    let mut answer = [OLD_ANSWER; 16];
+    let mut answer = [OLD_ANSWER; BOARD_ANSWER_SIZE];
     let lent = wide(lent[0]);
     let status = operate(&mut board, lent, &mut events, &operation, &mut answer);
     if status != wide(operation[15]) {
@@ -166,8 +168,8 @@ fn read_part(file: i32, part: &mut [u8]) -> Part {
 
 // Whether a replay of the trace answers 0 and the text's length, and writes the text.
 fn replays(trace: &[u8], text: &[u8]) -> bool {
-    let mut out = [0u8; TEXT];
-    let mut answer = [0u8; 16];
+    let mut out = [0u8; TEXT_ROOM];
+    let mut answer = [0u8; BOARD_ANSWER_SIZE];
     if pit::pit_replay(trace, &mut out, &mut answer) != 0 {
         return false;
     }
@@ -183,7 +185,7 @@ fn replays(trace: &[u8], text: &[u8]) -> bool {
 }
 
 fn text_case(file: i32, trace: &[u8]) -> Case {
-    let mut text = [0u8; TEXT];
+    let mut text = [0u8; TEXT_ROOM];
     let part = read_part(file, &mut text);
     let Part::Whole(length) = part else {
         return Case::Differs;

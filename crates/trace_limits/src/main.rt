@@ -7,10 +7,10 @@ use libc::STDIN_FILENO;
 use libc::STDOUT_FILENO;
 
 // The longest trace. The arrays have room for one byte more.
-const LONGEST: usize = 24592;
+const LONGEST: usize = trace::LONGEST_TRACE;
 
 // The room that a replay is lent: no replay prints more.
-pub(crate) const TEXT: usize = 262272;
+pub(crate) const TEXT: usize = runner::TEXT_ROOM;
 
 // Divisor 12 on the 8253, or what a case is about.
 struct Settings {

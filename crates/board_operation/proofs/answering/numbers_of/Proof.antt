@@ -13,7 +13,7 @@ returns-3 : tie.Need-returns-3
 returns-3 c = simp (c .saying2 .ensures, c .before .before .answer2 .given .1)
 
 returns-4 : tie.Need-returns-4
-returns-4 c = simp (c .saying3 .ensures, c .before .before .answer3 .given .1)
+returns-4 c = simp (c .saying3 .ensures, c .before .before .before .answer3 .given .1)
 
 returns-5 : tie.Need-returns-5
 returns-5 c = simp (c .saying4 .ensures, c .before .before .before .answer4 .given .1)

@@ -10,7 +10,7 @@ returns-2 : tie.Need-returns-2
 returns-2 c = simp (c .saying .ensures, c .before .bytes-written .ensures, c .before .before .before .answer2 .given .1)
 
 returns-3 : tie.Need-returns-3
-returns-3 c = simp (c .saying2 .ensures, c .before .before .answer3 .given .1)
+returns-3 c = simp (c .saying2 .ensures, c .before .before .before .answer3 .given .1)
 
 returns-4 : tie.Need-returns-4
 returns-4 c = simp (c .saying3 .ensures, c .before .before .answer4 .given .1)
