@@ -3,6 +3,7 @@ use Prim.Native.Nat.{ℕ, zero, suc}
 use mathlib.Core.Bool.{Bool, true, false, false≢true}
 use mathlib.Core.Path.{_≡_, refl, ap, _∙_}
 use native.Mathlib.Numerals.{add-one}
+use Rattle.numbers.specs.Radix.{radixCounts}
 use Rattle.numbers.proofs.Modulo.{again}
 use Rattle.channel.specs.declared.Channel.{Channel}
 use Rattle.channel.specs.declared.ChannelMode.{ChannelMode}
@@ -14,7 +15,7 @@ use Rattle.channel.specs.Modes.{byMode, modeNumber}
 use Rattle.channel.specs.Queries.{doesRetrigger}
 use Rattle.count.specs.Count.{count}
 use Rattle.mode.specs.Mode.{loadMask}
-use Rattle.sheet.specs.Ticking.{Chip, values, held, downValue, valueAfter}
+use Rattle.sheet.specs.Ticking.{Chip, held, downValue, valueAfter}
 use Rattle.tick.specs.Due.{runs, reloadsFrom}
 use Rattle.tick.specs.Taken.{squareTakes}
 use Rattle.tick.specs.Level.{loadLevel}
@@ -75,7 +76,7 @@ count-down : (bcd : Bool) (n j : ℕ) (c : Channel) → c .control .«bcd_mode»
     → count c .counter .«counting_element» ≡ held bcd (downValue bcd n (suc j))
 count-down bcd n j c radix e =
     counts-round bcd (downValue bcd n j) 1 c radix e
-    ∙ rw (← add-one j) (ap (held bcd) (again (values bcd) n j 1 (values-above bcd)))
+    ∙ rw (← add-one j) (ap (held bcd) (again (radixCounts bcd) n j 1 (values-above bcd)))
 
 -- a channel that counts and holds the value of j ticks
 pub record DownAt (bcd : Bool) (n j : ℕ) (c : Channel) : Type 0 where

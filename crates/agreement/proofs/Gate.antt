@@ -7,11 +7,11 @@ use Rattle.channel.specs.declared.Channel.{Channel}
 use Rattle.channel.specs.declared.ChannelMode.{ChannelMode}
 use Rattle.channel.specs.declared.ChannelState.the-variants.{WaitingForGate, WaitingForLoadCycle}
 use Rattle.channel.specs.Modes.{modeNumber}
-use Rattle.channel.specs.Shared.{changeChannelState, changeOutputState}
+use Rattle.channel.specs.Shared.{waitsForReload, changeChannelState, changeOutputState}
 use Rattle.channel.specs.Queries.{getOutputState}
 use Rattle.channel.proofs.Modes.{every-mode}
 use Rattle.channel.proofs.Pick.{of-pick, pick-same}
-use Rattle.gate.specs.Gate.{loadsOnRise, stopsOnFall, highOnFall, waitsForReload, setGate}
+use Rattle.gate.specs.Gate.{loadsOnRise, stopsOnFall, highOnFall, setGate}
 use Rattle.sheet.specs.Gate.{fallEffect, riseEffect}
 
 -- the table's three questions, mode by mode

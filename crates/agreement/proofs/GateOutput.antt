@@ -12,10 +12,10 @@ use Rattle.channel.specs.declared.ControlWord.{ControlWord}
 use Rattle.channel.specs.declared.PitType.{PitType}
 use Rattle.channel.specs.Modes.{modeNumber}
 use Rattle.channel.specs.Queries.{getOutputState}
-use Rattle.channel.specs.Shared.{changeChannelState, changeOutputState}
+use Rattle.channel.specs.Shared.{waitsForReload, changeChannelState, changeOutputState}
 use Rattle.channel.proofs.Modes.{every-mode}
 use Rattle.channel.proofs.Pick.{of-pick, pick-same, pick-holds}
-use Rattle.gate.specs.Gate.{stopsOnFall, highOnFall, waitsForReload, edge, withGate, setGate}
+use Rattle.gate.specs.Gate.{stopsOnFall, highOnFall, edge, withGate, setGate}
 use Rattle.gate.proofs.Keeps.{gate-keeps}
 use Rattle.sheet.specs.Gate.{fallEffect}
 use Rattle.tick.specs.declared.due.Kind.the-variants.{Idle}

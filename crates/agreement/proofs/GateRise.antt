@@ -8,11 +8,11 @@ use Rattle.channel.specs.declared.ChannelState.the-variants.{WaitingForLoadCycl
 use Rattle.channel.specs.declared.PitType.{PitType}
 use Rattle.channel.specs.declared.ReloadFlag.the-variants.{Normal}
 use Rattle.channel.specs.Modes.{modeNumber}
-use Rattle.channel.specs.Shared.{changeChannelState}
+use Rattle.channel.specs.Shared.{waitsForReload, changeChannelState}
 use Rattle.channel.specs.Queries.{doesRetrigger}
 use Rattle.channel.proofs.Modes.{every-mode}
 use Rattle.channel.proofs.Pick.{pick-same}
-use Rattle.gate.specs.Gate.{waitsForReload, withGate, setGate}
+use Rattle.gate.specs.Gate.{withGate, setGate}
 use Rattle.load.specs.Cycle.{loadValue}
 use Rattle.sheet.specs.Gate.{riseEffect}
 use Rattle.tick.specs.declared.due.Kind.the-variants.{Load}

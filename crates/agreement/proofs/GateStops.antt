@@ -13,11 +13,11 @@ use Rattle.channel.specs.declared.PitType.{PitType}
 use Rattle.channel.specs.declared.ReloadFlag.the-variants.{Normal, ReloadNextCycle}
 use Rattle.channel.specs.Kept.{Kept}
 use Rattle.channel.specs.Modes.{modeNumber}
-use Rattle.channel.specs.Shared.{changeChannelState, changeOutputState}
+use Rattle.channel.specs.Shared.{waitsForReload, changeChannelState, changeOutputState}
 use Rattle.channel.proofs.Keeps.{kept-then}
 use Rattle.channel.proofs.Modes.{every-mode}
 use Rattle.channel.proofs.Pick.{pick-holds}
-use Rattle.gate.specs.Gate.{stopsOnFall, highOnFall, waitsForReload, stopping, edge, setGate}
+use Rattle.gate.specs.Gate.{stopsOnFall, highOnFall, stopping, edge, setGate}
 use Rattle.gate.proofs.Keeps.{gate-keeps}
 use Rattle.sheet.specs.Gate.{fallEffect}
 use Rattle.tick.specs.declared.due.Kind.the-variants.{Idle, Load}

@@ -6,6 +6,7 @@ use native.Mathlib.Nat.{zero-mod, sub-zero, suc-mod, mod-lt, mod-eq-of-lt, mod-s
 use native.Mathlib.Omega.{arith}
 use lib.Dec.{eqb}
 use borrow.Author.Tests.{eq-eqb, ne-eqb, eqb-true, eqb-false}
+use Rattle.numbers.specs.Radix.{radixCounts}
 use Rattle.channel.specs.declared.Channel.{Channel}
 use Rattle.channel.specs.declared.ChannelMode.{ChannelMode}
 use Rattle.channel.specs.declared.ChannelMode.the-variants.{RateGenerator}
@@ -14,7 +15,7 @@ use Rattle.channel.specs.declared.PitType.{PitType}
 use Rattle.channel.specs.declared.ReloadFlag.the-variants.{Normal}
 use Rattle.channel.specs.Modes.{modeNumber}
 use Rattle.count.specs.Count.{count}
-use Rattle.sheet.specs.Ticking.{values, held, rateValue, valueAfter, outputAfter}
+use Rattle.sheet.specs.Ticking.{held, rateValue, valueAfter, outputAfter}
 use Rattle.tick.specs.declared.due.Kind.the-variants.{Reload}
 use Rattle.tick.specs.Due.{runs, reloadsFrom, due}
 use Rattle.tick.specs.Tick.{neverLoaded, tick}
@@ -56,20 +57,20 @@ rate-loaded bcd n level c d least moved high written whole =
     }
 
 -- a count of 2 or more may be loaded
-rate-may : (bcd : Bool) (n : ℕ) (c : Channel) → 2 ≤ n → n ≤ values bcd → c .control .mode ≡ RateGenerator → c .load .«reload_value» ≡ held bcd n
+rate-may : (bcd : Bool) (n : ℕ) (c : Channel) → 2 ≤ n → n ≤ radixCounts bcd → c .control .mode ≡ RateGenerator → c .load .«reload_value» ≡ held bcd n
     → neverLoaded c ≡ false
 rate-may bcd n c least most mode written = rw (mode, written) (held-one bcd n most ∙ ne-eqb n 1 (λ q. omega arith))
 
 -- a tick from the value v
 module _ (model : PitType) (bcd : Bool) (v : ℕ) (c : Channel) (mode : c .control .mode ≡ RateGenerator) (running : runs c ≡ true)
-    (now : RateAt bcd v c) (most : v ≤ values bcd) where
+    (now : RateAt bcd v c) (most : v ≤ radixCounts bcd) where
   goes : goesOn (c .counter .«channel_state») ≡ true
   goes = ap goesOn (now .still-counting)
 
   at-mark : reloadsFrom (c .control .mode) (c .counter .«counting_element») ≡ eqb v 1
   at-mark = rw (mode, now .rate-value) (held-one bcd v most)
 
-  rate-reloads : (n : ℕ) → 2 ≤ n → n ≤ values bcd → c .load .«reload_value» ≡ held bcd n → c .reloading .«load_mask» ≡ 0xFFFF
+  rate-reloads : (n : ℕ) → 2 ≤ n → n ≤ radixCounts bcd → c .load .«reload_value» ≡ held bcd n → c .reloading .«load_mask» ≡ 0xFFFF
       → v ≡ 1 → RateAt bcd n (tick model c)
   rate-reloads n least at-most written whole one =
       let is-due : due c ≡ Reload = due-reload c goes running (at-mark ∙ eq-eqb v 1 one) in

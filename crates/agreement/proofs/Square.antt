@@ -6,13 +6,14 @@ use native.Mathlib.Nat.{le-trans}
 use native.Mathlib.Omega.{arith}
 use lib.Dec.{ltb}
 use borrow.Author.Tests.{ltb-true, ltb-false}
+use Rattle.numbers.specs.Radix.{radixCounts}
 use Rattle.channel.specs.declared.Channel.{Channel}
 use Rattle.channel.specs.declared.ChannelMode.the-variants.{SquareWaveGenerator}
 use Rattle.channel.specs.declared.PitType.{PitType}
 use Rattle.channel.specs.declared.ReloadFlag.{ReloadFlag}
 use Rattle.channel.specs.declared.ReloadFlag.the-variants.{Normal, ReloadNextCycle}
 use Rattle.tick.specs.Tick.{loadAt, tick}
-use Rattle.sheet.specs.Ticking.{values, held, squareHigh, squareValue}
+use Rattle.sheet.specs.Ticking.{held, squareHigh, squareValue}
 use Rattle.agreement.specs.Ticking.{sheetChip, LoadsNext, ticksAfter, AsTheSheetSays}
 use Rattle.agreement.proofs.SquarePlace.{halfTicks, Stands, high-there, since-there, stands-first, stands-on, stands-over}
 use Rattle.agreement.proofs.SquareValue.{halfValue, loadedCount, Moves, counts, stops, Ends, at-once, waited, moves, ends, loaded-above, begins, at-most-count}
@@ -32,7 +33,7 @@ normal (suc v) h = refl
 abbrev Wave : PitType → Bool → ℕ → Bool → ℕ → Channel → Type 0
 Wave model bcd n high v d = At model bcd n (flagOf v) high v d
 
-module _ (model : PitType) (bcd : Bool) (n : ℕ) (least : 2 ≤ n) (most : n ≤ values bcd) where
+module _ (model : PitType) (bcd : Bool) (n : ℕ) (least : 2 ≤ n) (most : n ≤ radixCounts bcd) where
   counting : (high : Bool) (v : ℕ) (d : Channel) → 0 < v → Wave model bcd n high v d → At model bcd n Normal high v d
   counting high v d pos h = subst (λ (f : ReloadFlag). At model bcd n f high v d) (normal v pos) h
 
@@ -40,7 +41,7 @@ module _ (model : PitType) (bcd : Bool) (n : ℕ) (least : 2 ≤ n) (most : n �
   wave high v d pos h = subst (λ (f : ReloadFlag). At model bcd n f high v d) (sym (normal v pos)) h
 
   -- one tick inside a half
-  moved : (high : Bool) (v w : ℕ) (d : Channel) → v ≤ values bcd → Moves model n high v w → Wave model bcd n high v d
+  moved : (high : Bool) (v w : ℕ) (d : Channel) → v ≤ radixCounts bcd → Moves model n high v w → Wave model bcd n high v d
       → Wave model bcd n high w (tick model d)
   moved high v w d top (counts t takes e some left) h =
       wave high w (tick model d) left
@@ -50,7 +51,7 @@ module _ (model : PitType) (bcd : Bool) (n : ℕ) (least : 2 ≤ n) (most : n �
       (by-tick.lingers model bcd n least most high v v d top takes (counting high v d pos h) refl waits)
 
   -- its last tick
-  ended : (high : Bool) (v : ℕ) (d : Channel) → v ≤ values bcd → Ends model n high v → Wave model bcd n high v d
+  ended : (high : Bool) (v : ℕ) (d : Channel) → v ≤ radixCounts bcd → Ends model n high v → Wave model bcd n high v d
       → At model bcd n Normal (not high) (loadedCount model n) (tick model d)
   ended high v d top (at-once takes pos now) h =
       by-tick.ends model bcd n least most high v v d top takes (counting high v d pos h) refl now
@@ -67,7 +68,7 @@ module _ (model : PitType) (bcd : Bool) (n : ℕ) (least : 2 ≤ n) (most : n �
   abbrev In : Bool → ℕ → Channel → Type 0
   In high s d = Wave model bcd n high (halfValue (sheetChip model) n high s) d
 
-  small : (high : Bool) (s : ℕ) → halfValue (sheetChip model) n high s ≤ values bcd
+  small : (high : Bool) (s : ℕ) → halfValue (sheetChip model) n high s ≤ radixCounts bcd
   small high s = le-trans (at-most-count (sheetChip model) n high s) most
 
   inside : (high : Bool) (s : ℕ) (d : Channel) → suc s < halfTicks high n → In high s d → In high (suc s) (tick model d)

@@ -7,8 +7,9 @@ use native.Mathlib.Nat.{mod-eq-of-lt}
 use native.Mathlib.Omega.{arith}
 use lib.Bits.{bitAnd, and-mask, and-high}
 use Rattle.numbers.specs.Digits.{weight, packed}
+use Rattle.numbers.specs.Radix.{radixCounts}
 use Rattle.numbers.proofs.Digits.{weight-packed, packed-below}
-use Rattle.sheet.specs.Ticking.{values, held}
+use Rattle.sheet.specs.Ticking.{held}
 
 -- the ones digit has the number's lowest bit
 packed-parity : (v : ℕ) → packed v % 2 ≡ v % 2
@@ -28,7 +29,7 @@ unfolding packed
 packed-above v h pos = omega arith
 
 -- what is held of a value from 1 on and below the largest is not 0
-pub held-above : (bcd : Bool) (v : ℕ) → 0 < v → v < values bcd → 0 < held bcd v
+pub held-above : (bcd : Bool) (v : ℕ) → 0 < v → v < radixCounts bcd → 0 < held bcd v
 held-above false v pos h = omega arith
 held-above true v pos h = packed-above (v % 10000) (omega arith) (omega arith)
 
@@ -37,7 +38,7 @@ unfolding weight
 packed-not-one v h n e = n (sym (weight-packed v h) ∙ ap weight e)
 
 -- a count from 2 on is not held as 1
-pub held-not-one : (bcd : Bool) (n : ℕ) → 2 ≤ n → n ≤ values bcd → held bcd n ≡ 1 → ⊥
+pub held-not-one : (bcd : Bool) (n : ℕ) → 2 ≤ n → n ≤ radixCounts bcd → held bcd n ≡ 1 → ⊥
 held-not-one false n low high e = omega arith
 held-not-one true n low high e = packed-not-one (n % 10000) (omega arith) (omega arith) e
 

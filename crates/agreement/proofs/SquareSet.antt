@@ -6,6 +6,7 @@ use mathlib.Core.Path.{_≡_, refl, ap, _∙_}
 use lib.Bits.{bitAnd}
 use borrow.Author.Tests.{ne-eqb}
 use Rattle.numbers.specs.Times.{times}
+use Rattle.numbers.specs.Radix.{radixCounts}
 use Rattle.channel.specs.declared.Channel.{Channel}
 use Rattle.channel.specs.declared.ChannelMode.the-variants.{SquareWaveGenerator}
 use Rattle.channel.specs.declared.ChannelState.the-variants.{Counting}
@@ -23,7 +24,7 @@ use Rattle.count.proofs.Repeated.{control-kept}
 use Rattle.load.specs.Cycle.{loadValue}
 use Rattle.mode.specs.Mode.{squareMask}
 use Rattle.tick.specs.Tick.{withArmed, loaded, loadAt}
-use Rattle.sheet.specs.Ticking.{values, held}
+use Rattle.sheet.specs.Ticking.{held}
 use Rattle.agreement.proofs.HeldCounts.{counts-held, counts-reloading, counts-load, counts-pins, counts-state}
 use Rattle.agreement.proofs.SquareHeld.{held-not-one, whole-mask, odd-mask}
 use Rattle.agreement.proofs.SquareValue.{loadedCount}
@@ -60,7 +61,7 @@ module _ (model : PitType) (bcd : Bool) (n : ℕ) where
       }
 
   -- k counts take k from the value, and change nothing else of this
-  pub counted : (flag : ReloadFlag) (high : Bool) (v k : ℕ) (d : Channel) → k ≤ v → v ≤ values bcd
+  pub counted : (flag : ReloadFlag) (high : Bool) (v k : ℕ) (d : Channel) → k ≤ v → v ≤ radixCounts bcd
       → At model bcd n flag high v d → At model bcd n flag high (v - k) (times k count d)
   counted flag high v k d few most h =
       record {
@@ -83,7 +84,7 @@ module _ (model : PitType) (bcd : Bool) (n : ℕ) where
       record { set = set-kept d (loaded level d) refl refl refl refl h; state-is = refl; level-is = refl; element-is = value-loaded d h }
 
   -- a load of a count from 2 on, at a level
-  pub load-at : (level : Bool) (d : Channel) → 2 ≤ n → n ≤ values bcd → Set model bcd n d
+  pub load-at : (level : Bool) (d : Channel) → 2 ≤ n → n ≤ radixCounts bcd → Set model bcd n d
       → At model bcd n Normal level (loadedCount model n) (loadAt level d)
   unfolding loadAt
   load-at level d least most h =

@@ -7,6 +7,7 @@ use native.Mathlib.Omega.{arith}
 use borrow.Author.Tests.{ne-eqb}
 use Rattle.numbers.specs.Digits.{packed}
 use Rattle.numbers.specs.Times.{times}
+use Rattle.numbers.specs.Radix.{radixCounts}
 use Rattle.channel.specs.declared.Channel.{Channel}
 use Rattle.channel.specs.declared.ChannelState.the-variants.{Counting}
 use Rattle.channel.specs.declared.PitType.{PitType}
@@ -18,7 +19,7 @@ use Rattle.tick.specs.declared.due.Kind.the-variants.{Reload, Count}
 use Rattle.tick.specs.Due.{due}
 use Rattle.tick.specs.Taken.{squareTakes}
 use Rattle.tick.specs.Tick.{agedBy, withArmed, loadAt, halfOver, countingOn, marked, afterCounts, tick}
-use Rattle.sheet.specs.Ticking.{values, held}
+use Rattle.sheet.specs.Ticking.{held}
 use Rattle.agreement.proofs.SquareHeld.{held-parity, held-above}
 use Rattle.agreement.proofs.SquareValue.{loadedCount, waitsAtZero}
 use Rattle.agreement.proofs.SquareSet.{At, set-kept, counted, load-at}
@@ -37,7 +38,7 @@ on-counting : (flag : ReloadFlag) (d : Channel) → d .counter .«channel_state�
 unfolding countingOn
 on-counting flag d e = simp e
 
-module _ (model : PitType) (bcd : Bool) (n : ℕ) (least : 2 ≤ n) (most : n ≤ values bcd) where
+module _ (model : PitType) (bcd : Bool) (n : ℕ) (least : 2 ≤ n) (most : n ≤ radixCounts bcd) where
   module _ (high : Bool) (v : ℕ) (d : Channel) where
     -- a tick that counts
     count-due : At model bcd n Normal high v d → due d ≡ Count
@@ -49,7 +50,7 @@ module _ (model : PitType) (bcd : Bool) (n : ℕ) (least : 2 ≤ n) (most : n �
     tick-counts h = simp (count-due h, h .set .mode-is, h .level-is, h .element-is, held-parity)
 
     -- .. to a value above zero
-    above-zero : At model bcd n Normal high v d → 0 < v → v < values bcd → afterCounts model d ≡ agedBy 1 (marked d)
+    above-zero : At model bcd n Normal high v d → 0 < v → v < radixCounts bcd → afterCounts model d ≡ agedBy 1 (marked d)
     unfolding afterCounts
     above-zero h pos small =
         let some-left : held bcd v ≡ 0 → ⊥ = λ z. omega (arith, held-above bcd v pos small) in
@@ -102,7 +103,7 @@ module _ (model : PitType) (bcd : Bool) (n : ℕ) (least : 2 ≤ n) (most : n �
     reloads h = simp (reload-due h, h .set .mode-is, h .level-is) (load-at model bcd n (not high) d least most (h .set))
 
   -- a tick that takes t
-  module _ (high : Bool) (v t : ℕ) (d : Channel) (top : v ≤ values bcd) (takes : squareTakes high v ≡ t) (h : At model bcd n Normal high v d) where
+  module _ (high : Bool) (v t : ℕ) (d : Channel) (top : v ≤ radixCounts bcd) (takes : squareTakes high v ≡ t) (h : At model bcd n Normal high v d) where
     tick-takes : tick model d ≡ afterCounts model (times t count d)
     tick-takes = tick-counts high v d h ∙ ap (λ (k : ℕ). afterCounts model (times k count d)) takes
 

@@ -6,7 +6,8 @@ use mathlib.Core.Path.{_≡_, refl, _∙_}
 use native.Mathlib.Omega.{arith}
 use lib.Dec.{eqb, ltb}
 use borrow.Author.Tests.{lt-ltb, le-ltb, eq-eqb, ne-eqb, ltb-true, ltb-false, eqb-true, eqb-false}
-use Rattle.sheet.specs.Ticking.{values, held, downValue, highFrom, strobeHigh}
+use Rattle.numbers.specs.Radix.{radixCounts}
+use Rattle.sheet.specs.Ticking.{held, downValue, highFrom, strobeHigh}
 use Rattle.agreement.proofs.HeldCounts.{values-above, held-minus}
 use Rattle.agreement.proofs.HeldMarks.{eqb-as, held-zero}
 
@@ -23,13 +24,13 @@ three-ways j n P before at after = by-tests (ltb j n) (eqb (suc j) n) refl refl
     by-tests false e l t = after (ltb-false j n l)
 
 -- up to there the value is the difference, so it is 0 exactly with the n-th tick
-zero-at : (bcd : Bool) (n j : ℕ) → n ≤ values bcd → j < n → eqb (held bcd (downValue bcd n (suc j))) 0 ≡ eqb (suc j) n
+zero-at : (bcd : Bool) (n j : ℕ) → n ≤ radixCounts bcd → j < n → eqb (held bcd (downValue bcd n (suc j))) 0 ≡ eqb (suc j) n
 zero-at bcd n j most h =
-    let below : n - suc j < values bcd = omega (arith, values-above bcd) in
+    let below : n - suc j < radixCounts bcd = omega (arith, values-above bcd) in
     rw (held-minus bcd n (suc j) (omega arith))
     (held-zero bcd (n - suc j) below ∙ eqb-as (suc j) n (n - suc j) 0 (λ (q : suc j ≡ n). omega arith) (λ (q : n - suc j ≡ 0). omega arith))
 
-module _ (bcd : Bool) (n j : ℕ) (most : n ≤ values bcd) where
+module _ (bcd : Bool) (n j : ℕ) (most : n ≤ radixCounts bcd) where
   -- M0, M1: high from there on
   pub rises : (highFrom n j || eqb (held bcd (downValue bcd n (suc j))) 0) ≡ highFrom n (suc j)
   rises =

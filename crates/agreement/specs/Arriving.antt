@@ -4,18 +4,20 @@ use Prim.Native.Nat.{ℕ, _≤_}
 use mathlib.Core.Bool.{Bool, true, false, not, _&&_}
 use mathlib.Core.Path.{_≡_}
 use lib.Bits.{bitAnd}
+use Rattle.numbers.specs.Radix.{radixCounts}
 use Rattle.channel.specs.declared.Channel.{Channel}
 use Rattle.channel.specs.declared.LoadType.{LoadType}
 use Rattle.channel.specs.declared.LoadType.the-variants.{InitialLoad, SubsequentLoad}
 use Rattle.channel.specs.declared.PitType.{PitType}
 use Rattle.channel.specs.Modes.{modeNumber}
-use Rattle.gate.specs.Gate.{waitsForReload, setGate}
+use Rattle.channel.specs.Shared.{waitsForReload}
+use Rattle.gate.specs.Gate.{setGate}
 use Rattle.load.specs.Finalize.{loadsAgain, finalizeLoad}
 use Rattle.mode.specs.Mode.{loadMask}
 use Rattle.tick.specs.declared.due.Kind.the-variants.{Idle, Deferred, Load}
 use Rattle.tick.specs.Due.{triggered, runs, due}
 use Rattle.tick.specs.Tick.{neverLoaded, tick}
-use Rattle.sheet.specs.Ticking.{values, held, smallest}
+use Rattle.sheet.specs.Ticking.{held, smallest}
 use Rattle.agreement.specs.Ticking.{LoadsNext}
 use Rattle.agreement.specs.Gating.{rise}
 
@@ -40,7 +42,7 @@ pub record InRegister (model : PitType) (c : Channel) (register n : ℕ) : Type 
   pub stands : register ≡ held (c .control .«bcd_mode») n
   pub mask : c .reloading .«load_mask» ≡ loadMask model 0xFFFF (c .control .mode)
   pub at-least : smallest (modeNumber (c .control .mode)) ≤ n
-  pub at-most : n ≤ values (c .control .«bcd_mode»)
+  pub at-most : n ≤ radixCounts (c .control .«bcd_mode»)
 
 -- M0, M4: "The tick after a completed load loads"; of modes 2 and 3 docs/TICK.md, T2. No gate is asked for here: M0-8254, "with the gate low too"
 abbrev pub WriteDue : Type 0

@@ -11,8 +11,9 @@ use Rattle.channel.specs.declared.PitType.{PitType}
 use Rattle.channel.specs.declared.ReloadFlag.the-variants.{Normal, ReloadNextCycle}
 use Rattle.channel.specs.Kept.{Kept}
 use Rattle.channel.specs.Modes.{modeNumber}
+use Rattle.channel.specs.Shared.{waitsForReload}
 use Rattle.count.specs.Count.{count}
-use Rattle.gate.specs.Gate.{waitsForReload, withGate, setGate}
+use Rattle.gate.specs.Gate.{withGate, setGate}
 use Rattle.load.specs.Cycle.{loadValue}
 use Rattle.tick.specs.declared.due.Kind.the-variants.{Load, Reload, Count}
 use Rattle.tick.specs.Due.{reloadsFrom, due}

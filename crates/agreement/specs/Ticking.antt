@@ -3,6 +3,7 @@ use Prim.Native.Nat.{ℕ, _≤_}
 use mathlib.Core.Bool.{true}
 use mathlib.Core.Path.{_≡_}
 use Rattle.numbers.specs.Times.{times}
+use Rattle.numbers.specs.Radix.{radixCounts}
 use Rattle.channel.specs.declared.Channel.{Channel}
 use Rattle.channel.specs.declared.PitType.{PitType}
 use Rattle.channel.specs.declared.PitType.the-variants.{Model8253, Model8254}
@@ -11,7 +12,7 @@ use Rattle.mode.specs.Mode.{loadMask}
 use Rattle.tick.specs.declared.due.Kind.the-variants.{Load}
 use Rattle.tick.specs.Due.{runs, due}
 use Rattle.tick.specs.Tick.{tick}
-use Rattle.sheet.specs.Ticking.{Chip, chip8253, chip8254, values, held, valueAfter, outputAfter, smallest}
+use Rattle.sheet.specs.Ticking.{Chip, chip8253, chip8254, held, valueAfter, outputAfter, smallest}
 
 abbrev pub sheetChip : PitType → Chip
 sheetChip Model8253 = chip8253
@@ -25,7 +26,7 @@ pub record LoadsNext (model : PitType) (c : Channel) (n : ℕ) : Type 0 where
   pub written : c .load .«reload_value» ≡ held (c .control .«bcd_mode») n
   pub mask : c .reloading .«load_mask» ≡ loadMask model 0xFFFF (c .control .mode)
   pub at-least : smallest (modeNumber (c .control .mode)) ≤ n
-  pub at-most : n ≤ values (c .control .«bcd_mode»)
+  pub at-most : n ≤ radixCounts (c .control .«bcd_mode»)
 
 -- the record j ticks after that load
 abbrev pub ticksAfter : PitType → Channel → ℕ → Channel

@@ -1,7 +1,7 @@
 -- What ticks do to a channel that waits, for a count to be written or for a trigger: nothing that is read, and the output stands. Lines O1, M0, M1, M5 of
 -- docs/SHEETS.md.
 use Prim.Native.Nat.{ℕ}
-use mathlib.Core.Bool.{Bool, true, false}
+use mathlib.Core.Bool.{true, false}
 use mathlib.Core.Path.{_≡_}
 use Rattle.numbers.specs.Times.{times}
 use Rattle.channel.specs.declared.Channel.{Channel}

@@ -16,7 +16,7 @@ use Rattle.board.specs.Answer.{replyOf, outcome}
 abbrev valueAnswer : Value → Answer
 valueAnswer done = Done
 valueAnswer (newPlace p) = Place p
-valueAnswer (byte x) = Byte x
+valueAnswer (byte r) = Byte r
 valueAnswer (ticks n) = Ticks (record { 0 = n })
 valueAnswer (outputState level) = OutputState level
 valueAnswer (channelCount register element counting) =
@@ -34,7 +34,7 @@ answer-back : (a : Answer) → answerOf (replyOf a) ≡ a
 answer-back (Refused refusal) = ap Refused (numbered-back refusal)
 answer-back Done = refl
 answer-back (Place p) = refl
-answer-back (Byte x) = refl
+answer-back (Byte r) = refl
 answer-back (Ticks t) = refl
 answer-back (OutputState level) = refl
 answer-back (Count c) = refl

@@ -14,7 +14,7 @@ abbrev pub replyOf : Answer → Reply Value
 replyOf (Refused refusal) = refused (refusalNumber refusal)
 replyOf Done = accepted done
 replyOf (Place p) = accepted (newPlace p)
-replyOf (Byte x) = accepted (byte x)
+replyOf (Byte r) = accepted (byte r)
 replyOf (Ticks t) = accepted (ticks (t .0))
 replyOf (OutputState level) = accepted (outputState level)
 replyOf (Count c) = accepted (countValue c)

@@ -6,14 +6,15 @@ use lib.Dec.{eqb, ltb}
 use Rattle.refusal.specs.Reply.{Reply, refused, accepted}
 use Rattle.channel.specs.declared.queries.ChannelCount.{ChannelCount}
 use Rattle.board.specs.declared.Board.{Board}
+use Rattle.board.specs.declared.PortRead.{PortRead}
 
 -- what an accepted call says
 pub data Value : Type 0 where
   done : Value
   -- "The new place is the old plus 2, or the old if no event."
   newPlace : ℕ → Value
-  -- the byte read
-  byte : ℕ → Value
+  -- what a port read says
+  byte : PortRead → Value
   -- timer ticks yielded
   ticks : ℕ → Value
   outputState : Bool → Value

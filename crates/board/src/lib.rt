@@ -27,6 +27,11 @@ pub struct Board {
     pub owed: TimerTicks,
 }
 
+// What a port read says: the byte.
+pub struct PortRead {
+    pub byte: u8,
+}
+
 // What working ticks off comes to: how many were made, and the new place in the event bytes.
 pub struct Worked {
     pub made: TimerTicks,
@@ -40,7 +45,7 @@ pub enum Answer {
     Done,
     // Port write and gate: the new place in the event bytes.
     Place(usize),
-    Byte(u8),
+    Byte(PortRead),
     Ticks(TimerTicks),
     OutputState(bool),
     Count(ChannelCount),

@@ -1,101 +1,111 @@
--- Readable bytes of a board have one form only: they are those of the board that is loaded from them. Assumes nothing.
-use Prim.Native.Nat.{ℕ, _+_, _≤_, _<_}
+-- Readable bytes of a board have one form only: they are those of the board that they spell, part by part. Assumes nothing.
+use Prim.Native.Nat.{ℕ, _+_, _-_, _≤_, _<_}
 use mathlib.Core.Path.{_≡_, refl, sym, ap, _∙_}
-use mathlib.Core.Bool.{Bool, true, false, cond, _||_, not}
+use mathlib.Core.Bool.{Bool, true, false, _&&_, _||_, not, true≢false}
 use mathlib.Core.List.{List, [], _∷_, _++_}
 use native.Mathlib.Omega.{arith}
-use lib.Dec.{ltb}
-use lib.ListN.{length, getD, take, drop}
+use lib.Dec.{eqb, ltb}
+use lib.ListN.{length, getD, take, drop, length-take, length-drop}
 use lib.Seq.{take-add, take-all, take-take}
 use borrow.Author.Tests.{ltb-false}
+use Rattle.numbers.specs.Flags.{flagNumber}
 use Rattle.numbers.specs.Little.{fourBytes}
 use Rattle.numbers.specs.Number.{numberAt}
-use Rattle.numbers.proofs.Little.{four-of}
-use Rattle.channel.specs.declared.Channel.{Channel}
 use Rattle.channel.proofs.Models.{model-number-back}
-use Rattle.encoding.specs.declared.loading.Loaded.{Loaded}
-use Rattle.encoding.specs.declared.loading.Loaded.the-variants as record-loaded
-use Rattle.encoding.specs.Stored.{channelBytes}
-use Rattle.encoding.proofs.Spelled.{spelled, spelled-part}
-use Rattle.encoding.proofs.Only.{flag-only, only-bytes as record-bytes}
-use Rattle.board.specs.declared.Board.{Board}
-use Rattle.board_encoding.specs.declared.loading.BoardLoaded.{BoardLoaded}
-use Rattle.board_encoding.specs.declared.loading.Found.the-variants.{Short, Unreadable}
-use Rattle.board_encoding.specs.Stored.{ownBytes, boardBytes}
-use Rattle.board_encoding.specs.Loaded.{none, whole, boardOf, recordAt, withRecord, loadBoard}
+use Rattle.encoding.specs.Stored.{channelSize, channelBytes}
+use Rattle.encoding.specs.Loaded.{readable, channelSpelled}
+use Rattle.encoding.proofs.Spelled.{spelled, spelled-part, four}
+use Rattle.encoding.proofs.Only.{flag-only, form}
+use Rattle.board_encoding.specs.Places.{recordPlace, modelPlace, divisorPlace, remainderPlace, warpPlace, deferPlace, owedPlace, boardSize}
+use Rattle.board_encoding.specs.Stored.{settingsBytes, timeBytes, boardBytes}
+use Rattle.board_encoding.specs.Loaded.{recordPart, ownReadable, boardReadable, boardIn, HoldsBoard}
 
-not-none : (b : Board) → none Unreadable ≡ whole b → ⊥
-not-none b e = let z : _≡_ {A = ℕ} 0 1 = cc (ap (λ (l : BoardLoaded). l .found) e) in omega arith
+all-true : (a b c d : Bool) → ((a && b) && (c && d)) ≡ true → (a ≡ true) × (b ≡ true) × (c ≡ true) × (d ≡ true)
+all-true true true true true e = (refl, refl, refl, refl)
+all-true true true true false e = absurd (true≢false (sym e))
+all-true true true false d e = absurd (true≢false (sym e))
+all-true true false c d e = absurd (true≢false (sym e))
+all-true false b c d e = absurd (true≢false (sym e))
 
-not-short : (b : Board) → none Short ≡ whole b → ⊥
-not-short b e = let z : _≡_ {A = ℕ} 0 1 = cc (ap (λ (l : BoardLoaded). l .found) e) in omega arith
+neither : (a b : Bool) → not (a || b) ≡ true → (a ≡ false) × (b ≡ false)
+neither true b e = absurd (true≢false (sym e))
+neither false true e = absurd (true≢false (sym e))
+neither false false e = (refl, refl)
 
--- a whole board comes of bytes that are not too few, ..
-enough : (short : Bool) (l : BoardLoaded) (b : Board) → cond short (none Short) l ≡ whole b → (short ≡ false) × (l ≡ whole b)
-enough true l b e = absurd (not-short b e)
-enough false l b e = (refl, e)
+pub part-length : (bytes : List ℕ) → boardSize ≤ length bytes → (n : ℕ) → n < 3 → length (recordPart bytes n) ≡ channelSize
+part-length bytes enough n on = simp (length-take, length-drop) (omega arith)
 
--- .. of whole records ..
-record Held (l : Loaded) (rest : Channel → BoardLoaded) (b : Board) : Type 0 where
-  c : Channel
-  found : l ≡ record-loaded.Whole c
-  goes : rest c ≡ whole b
+-- the bytes from one place up to another
+abbrev pub between : List ℕ → ℕ → ℕ → List ℕ
+between bytes from to = take (to - from) (drop from bytes)
 
-held : (l : Loaded) (rest : Channel → BoardLoaded) (b : Board) → withRecord l rest ≡ whole b → Held l rest b
-held (record-loaded.Whole c) rest b e = record { c = c; found = refl; goes = e }
-held record-loaded.Short rest b e = absurd (not-none b e)
-held record-loaded.Unreadable rest b e = absurd (not-none b e)
+-- the bytes before a place, in parts
+module _ (bytes : List ℕ) where
+  pub before-third : take (recordPlace 2) bytes ≡ recordPart bytes 0 ++ recordPart bytes 1
+  before-third = take-add channelSize channelSize bytes
 
--- .. and of a model and a defer flag within their limits
-own : (model defer : Bool) (c b : Board) → cond (not (model || defer)) (whole c) (none Unreadable) ≡ whole b
-    → (model ≡ false) × (defer ≡ false) × (c ≡ b)
-own true defer c b e = absurd (not-none b e)
-own false true c b e = absurd (not-none b e)
-own false false c b e = (refl, refl, ap (λ (l : BoardLoaded). l .board) e)
+  before-own : take modelPlace bytes ≡ recordPart bytes 0 ++ recordPart bytes 1 ++ recordPart bytes 2
+  before-own = take-add (recordPlace 2) channelSize bytes ∙ ap (λ l. l ++ recordPart bytes 2) before-third
 
-module _ (bytes : List ℕ) (all : (p : ℕ) → getD bytes p 0 < 256) where
-  pub four : (p : ℕ) → fourBytes (numberAt bytes p) ≡ getD bytes p 0 ∷ getD bytes (p + 1) 0 ∷ getD bytes (p + 2) 0 ∷ getD bytes (p + 2 + 1) 0 ∷ []
-  unfolding numberAt
-  four p = four-of _ _ _ _ (all p) (all (p + 1)) (all (p + 2)) (all (p + 2 + 1))
+  pub before-time : take remainderPlace bytes ≡ recordPart bytes 0 ++ recordPart bytes 1 ++ recordPart bytes 2 ++ between bytes modelPlace remainderPlace
+  before-time = take-add modelPlace (remainderPlace - modelPlace) bytes ∙ ap (λ l. l ++ between bytes modelPlace remainderPlace) before-own
 
-  pub own-spelled : (c0 c1 c2 : Channel) → getD bytes 87 0 ≤ 1 → getD bytes 100 0 ≤ 1 → ownBytes (boardOf c0 c1 c2 bytes) ≡ spelled bytes 87 18
-  unfolding boardOf
-  own-spelled c0 c1 c2 model defer =
-      λ i. model-number-back (getD bytes 87 0) model i ∷ four 88 i ++ four 92 i ++ four 96 i ++ flag-only (getD bytes 100 0) defer i ∷ four 101 i
+module _ (bytes : List ℕ) (all : (p : ℕ) → getD bytes p 0 < 256) (h : HoldsBoard bytes) where
+  four-at : (p : ℕ) → fourBytes (numberAt bytes p) ≡ getD bytes p 0 ∷ getD bytes (p + 1) 0 ∷ getD bytes (p + 2) 0 ∷ getD bytes (p + 2 + 1) 0 ∷ []
+  four-at p = four bytes p (all p) (all (p + 1)) (all (p + 2)) (all (p + 2 + 1))
 
-  -- the record at a place
-  pub record-form : (place : ℕ) (c : Channel) → recordAt bytes place ≡ record-loaded.Whole c → channelBytes c ≡ take 29 (drop place bytes)
-  record-form place c e = record-bytes (take 29 (drop place bytes)) c e ∙ take-take 29 29 (drop place bytes) (omega arith)
+  limits-kept : (readable (recordPart bytes 0) ≡ true) × (readable (recordPart bytes 1) ≡ true) × (readable (recordPart bytes 2) ≡ true) × (ownReadable bytes ≡ true)
+  unfolding boardReadable
+  limits-kept = all-true (readable (recordPart bytes 0)) (readable (recordPart bytes 1)) (readable (recordPart bytes 2)) (ownReadable bytes) (h .within)
 
-  in-parts : take 105 bytes ≡ take 29 bytes ++ take 29 (drop 29 bytes) ++ take 29 (drop 58 bytes) ++ take 18 (drop 87 bytes)
-  in-parts =
-      take-add 87 18 bytes
-      ∙ ap (λ (l : List ℕ). l ++ take 18 (drop 87 bytes))
-      (take-add 58 29 bytes ∙ ap (λ (l : List ℕ). l ++ take 29 (drop 58 bytes)) (take-add 29 29 bytes))
+  own-limits : (getD bytes modelPlace 0 ≤ 1) × (getD bytes deferPlace 0 ≤ 1)
+  own-limits =
+      let e = neither (ltb 1 (getD bytes modelPlace 0)) (ltb 1 (getD bytes deferPlace 0)) (limits-kept .3) in
+      (ltb-false _ _ (e .0), ltb-false _ _ (e .1))
 
-  of-parts : (c0 c1 c2 : Channel) → 105 ≤ length bytes → recordAt bytes 0 ≡ record-loaded.Whole c0 → recordAt bytes 29 ≡ record-loaded.Whole c1
-      → recordAt bytes 58 ≡ record-loaded.Whole c2
-      → getD bytes 87 0 ≤ 1
-      → getD bytes 100 0 ≤ 1
-      → boardBytes (boardOf c0 c1 c2 bytes) ≡ take 105 bytes
-  unfolding boardBytes boardOf
-  of-parts c0 c1 c2 long e0 e1 e2 model defer =
-      let first = record-form 0 c0 e0 in
-      let second = record-form 29 c1 e1 in
-      let third = record-form 58 c2 e2 in
-      let behind = own-spelled c0 c1 c2 model defer ∙ spelled-part bytes 87 18 long in
-      (λ i. first i ++ second i ++ third i ++ behind i) ∙ sym in-parts
+  record-form : (n : ℕ) → n < 3 → readable (recordPart bytes n) ≡ true → channelBytes (channelSpelled (recordPart bytes n)) ≡ recordPart bytes n
+  record-form n on good =
+      form (recordPart bytes n) good (let e = part-length bytes (h .long) n on in omega arith)
+      ∙ take-take channelSize channelSize (drop (recordPlace n) bytes) (omega arith)
 
-  pub only-bytes-before : (b : Board) → loadBoard bytes ≡ whole b → boardBytes b ≡ take 105 bytes
-  unfolding loadBoard
-  only-bytes-before b e =
-      let long = enough (ltb (length bytes) 105) _ b e in
-      let first = held (recordAt bytes 0) _ b (long .1) in
-      let second = held (recordAt bytes 29) _ b (first .goes) in
-      let third = held (recordAt bytes 58) _ b (second .goes) in
-      let rest = own (ltb 1 (getD bytes 87 0)) (ltb 1 (getD bytes 100 0)) (boardOf (first .c) (second .c) (third .c) bytes) b (third .goes) in
-      rw (← rest .2)
-      (of-parts (first .c) (second .c) (third .c) (ltb-false _ _ (long .0)) (first .found) (second .found) (third .found) (ltb-false _ _ (rest .0)) (ltb-false _ _ (rest .1)))
+  pub first-form : channelBytes (channelSpelled (recordPart bytes 0)) ≡ recordPart bytes 0
+  first-form = record-form 0 (omega arith) (limits-kept .0)
 
-  pub only-bytes : (b : Board) → length bytes ≡ 105 → loadBoard bytes ≡ whole b → boardBytes b ≡ bytes
-  only-bytes b len e = only-bytes-before b e ∙ take-all 105 bytes (omega arith)
+  pub second-form : channelBytes (channelSpelled (recordPart bytes 1)) ≡ recordPart bytes 1
+  second-form = record-form 1 (omega arith) (limits-kept .1)
+
+  pub third-form : channelBytes (channelSpelled (recordPart bytes 2)) ≡ recordPart bytes 2
+  third-form = record-form 2 (omega arith) (limits-kept .2)
+
+  settings-spelled : settingsBytes (boardIn bytes) ≡ spelled bytes modelPlace (remainderPlace - modelPlace)
+  unfolding boardIn
+  settings-spelled = λ i. model-number-back (getD bytes modelPlace 0) (own-limits .0) i ∷ four-at divisorPlace i
+
+  defer-byte : flagNumber (eqb (getD bytes deferPlace 0) 1) ≡ getD bytes deferPlace 0
+  defer-byte = flag-only (getD bytes deferPlace 0) (own-limits .1)
+
+  pub settings-form : settingsBytes (boardIn bytes) ≡ between bytes modelPlace remainderPlace
+  settings-form = settings-spelled ∙ spelled-part bytes modelPlace (remainderPlace - modelPlace) (let long = h .long in omega arith)
+
+  pub time-form : timeBytes (numberAt bytes remainderPlace) (numberAt bytes warpPlace) (eqb (getD bytes deferPlace 0) 1) (numberAt bytes owedPlace)
+      ≡ between bytes remainderPlace boardSize
+  time-form =
+      (λ i. four-at remainderPlace i ++ four-at warpPlace i ++ defer-byte i ∷ four-at owedPlace i)
+      ∙ spelled-part bytes remainderPlace (boardSize - remainderPlace) (h .long)
+
+  -- all of its own, with other owed ticks
+  pub owing-form : (owed : ℕ)
+      → settingsBytes (boardIn bytes) ++ timeBytes (numberAt bytes remainderPlace) (numberAt bytes warpPlace) (eqb (getD bytes deferPlace 0) 1) owed
+      ≡ between bytes modelPlace owedPlace ++ fourBytes owed
+  owing-form owed =
+      (λ i. settings-spelled i ++ four-at remainderPlace i ++ four-at warpPlace i ++ defer-byte i ∷ fourBytes owed)
+      ∙ ap (λ (l : List ℕ). l ++ fourBytes owed) (spelled-part bytes modelPlace (owedPlace - modelPlace) (let long = h .long in omega arith))
+
+  pub only-bytes-before : boardBytes (boardIn bytes) ≡ take boardSize bytes
+  unfolding boardBytes boardIn
+  only-bytes-before =
+      (λ i. first-form i ++ second-form i ++ third-form i ++ settings-form i ++ time-form i)
+      ∙ sym (take-add remainderPlace (boardSize - remainderPlace) bytes ∙ ap (λ l. l ++ between bytes remainderPlace boardSize) (before-time bytes))
+
+  pub only-bytes : length bytes ≡ boardSize → boardBytes (boardIn bytes) ≡ bytes
+  only-bytes len = only-bytes-before ∙ take-all boardSize bytes (omega arith)

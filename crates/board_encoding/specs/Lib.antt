@@ -1,3 +1,4 @@
+pub mod Places
 pub mod Stored
 pub mod Loaded
 pub mod Range

@@ -10,7 +10,7 @@ use Rattle.step.specs.Operation as call
 use Rattle.step.specs.Step.{step}
 use Rattle.board_operation.specs.declared.Operation.{Operation}
 use Rattle.board_operation.specs.declared.Operation.the-variants.{WritePort, ReadPort, SetChannelGate, Counts, LoadCycle, CatchUp, Run, Reset, GetOutputState, GetChannelCount, DoesChannelRetrigger, IsDirty, GetTimerAccum, WorkOff}
-use Rattle.board_operation.specs.declared.making.Numbers.{Numbers}
+use Rattle.board_operation.specs.declared.answering.Numbers.{Numbers}
 
 -- the call of the board
 abbrev pub asked : Operation → List ℕ → ℕ → call.Operation
@@ -53,7 +53,7 @@ numbered refusal a b c = record { refusal = refusal; first = a; second = b; thir
 abbrev pub valueNumbers : Value → Numbers
 valueNumbers done = numbered 0 0 0 0
 valueNumbers (newPlace p) = numbered 0 p 0 0
-valueNumbers (byte x) = numbered 0 x 0 0
+valueNumbers (byte r) = numbered 0 (r .byte) 0 0
 valueNumbers (ticks n) = numbered 0 n 0 0
 valueNumbers (outputState level) = numbered 0 (flagNumber level) 0 0
 valueNumbers (channelCount register element counting) = numbered 0 register element (flagNumber counting)

@@ -1,10 +1,10 @@
 // One operation on a board, asked for by three numbers and answered by three: docs/ENCODING.md.
+pub mod answering;
 pub mod asked;
-pub mod making;
 
+pub use answering::numbers_of;
+pub use answering::saying;
 pub use asked::operation_of;
-pub use making::numbers_of;
-pub use making::saying;
 use time::SystemTicks;
 
 // A port and a byte; a channel with a level or a number; ticks; a channel; how many ticks to work off.

@@ -24,7 +24,7 @@ ghost use mathlib.Core.List.{[]};
 ghost use mathlib.Core.Path.{_≡_};
 ghost use Rattle.board.specs.Answer.{outcome};
 ghost use Rattle.board.specs.Making.{restored};
-ghost use Rattle.board.specs.Outcome.{Outcome, done, accept};
+ghost use Rattle.board.specs.Outcome.{Outcome, done};
 ghost use Rattle.clock.specs.Clock.{elapse};
 ghost use Rattle.owed.specs.Worked.{workOff};
 ghost use Rattle.turn.specs.Inner.{OnBoard, Bare};

@@ -16,6 +16,24 @@ isCounting WaitingForLoadCycle = false
 isCounting WaitingForLoadTrigger = false
 isCounting (Counting f) = true
 
+-- `WaitingForReload`: a mode set, and no count since
+abbrev pub waitsForReload : ChannelState → Bool
+waitsForReload WaitingForReload = true
+waitsForReload WaitingForGate = false
+waitsForReload DeferLoadCycle = false
+waitsForReload WaitingForLoadCycle = false
+waitsForReload WaitingForLoadTrigger = false
+waitsForReload (Counting f) = false
+
+-- `WaitingForLoadCycle`: the next load cycle loads
+abbrev pub waitsForCycle : ChannelState → Bool
+waitsForCycle WaitingForReload = false
+waitsForCycle WaitingForGate = false
+waitsForCycle DeferLoadCycle = false
+waitsForCycle WaitingForLoadCycle = true
+waitsForCycle WaitingForLoadTrigger = false
+waitsForCycle (Counting f) = false
+
 -- "becomes `Counting(Normal)`, which sets dirty"; in the Rust's text, only where it was not counting before
 abbrev pub startsCounting : ChannelState → ChannelState → Bool
 startsCounting old new = cond (isCounting old) false (isCounting new)

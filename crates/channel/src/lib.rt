@@ -7,6 +7,7 @@ pub mod fresh;
 pub mod number;
 pub mod queries;
 pub mod shared;
+pub mod states;
 
 // Which of Intel's two chips the board carries.
 pub enum PitType {

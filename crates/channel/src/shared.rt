@@ -4,22 +4,7 @@ use crate::ChannelState;
 use crate::Counter;
 use crate::Latch;
 ghost use mathlib.Core.Path.{_≡_};
-ghost use Rattle.channel.specs.Shared.{isCounting, changeChannelState, changeOutputState, followed, putElement};
-
-impl ChannelState {
-    pub fn is_counting(self) -> bool
-        ensures { λ r. ⌜ r ≡ isCounting self ⌝ }
-    {
-        match self {
-            ChannelState::WaitingForReload => false,
-            ChannelState::WaitingForGate => false,
-            ChannelState::DeferLoadCycle => false,
-            ChannelState::WaitingForLoadCycle => false,
-            ChannelState::WaitingForLoadTrigger => false,
-            ChannelState::Counting(_) => true,
-        }
-    }
-}
+ghost use Rattle.channel.specs.Shared.{changeChannelState, changeOutputState, followed, putElement};
 
 impl Latch {
     // A new value of the counting element, as the output latch takes it.

@@ -10,7 +10,8 @@ use Rattle.channel.specs.declared.Latch.{Latch}
 use Rattle.channel.specs.Record.{withCounter, withLatch}
 use Rattle.channel.specs.Shared.{followed, putElement}
 use Rattle.count.specs.Step.{stepIn}
-use Rattle.count.specs.Count.{followedBy, tickedBy, count}
+use Rattle.count.specs.Count.{count}
+use Rattle.count.specs.Inner.{followedBy, tickedBy}
 
 -- the latch shows the last value only
 follows-last : (b : Bool) (l : Latch) (e f : ℕ) → l .«count_is_latched» ≡ b → followed (followed l e) f ≡ followed l f

@@ -1,11 +1,9 @@
 -- Document 01, "Counting, latch and reading": one count of a channel.
 use Prim.Native.Nat.{ℕ}
-use mathlib.Core.Bool.{Bool, true, cond}
-use lib.Dec.{eqb}
+use mathlib.Core.Bool.{true}
 use Rattle.channel.specs.declared.Channel.{Channel}
-use Rattle.channel.specs.declared.Latch.{Latch}
 use Rattle.channel.specs.Record.{withCounter}
-use Rattle.channel.specs.Shared.{followed, putElement}
+use Rattle.channel.specs.Shared.{putElement}
 use Rattle.count.specs.Step.{stepIn}
 
 -- the counting element after one count
@@ -26,10 +24,3 @@ withTicked c =
 -- "A count takes one from the counting element"; "The output latch follows unless latched; `ticked` becomes true."
 unfoldable pub count : Channel → Channel
 count c = withTicked (putElement c (nextElement c))
-
--- What follows says nothing new and need not be believed: n counts by parts, as the code has them (`counted-at-once`). The output latch and `ticked` after a number of counts, the last of which leaves e in the counting element; as they were where no count is made
-abbrev pub followedBy : ℕ → Latch → ℕ → Latch
-followedBy number l e = cond (eqb number 0) l (followed l e)
-
-abbrev pub tickedBy : ℕ → Bool → Bool
-tickedBy number ticked = cond (eqb number 0) ticked true

@@ -4,7 +4,8 @@ use channel::Latch;
 ghost use mathlib.Core.Path.{_≡_};
 ghost use Rattle.count.specs.Step.{decimalStep, stepIn};
 ghost use Rattle.numbers.specs.Times.{times};
-ghost use Rattle.count.specs.Count.{followedBy, tickedBy, count};
+ghost use Rattle.count.specs.Count.{count};
+ghost use Rattle.count.specs.Inner.{followedBy, tickedBy};
 
 // The decimal step borrows from the lowest digit that is not 0.
 pub fn decimal_step(element: u16) -> u16

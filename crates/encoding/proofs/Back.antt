@@ -8,6 +8,7 @@ use lib.Dec.{ltb}
 use lib.ListN.{length, length-append}
 use borrow.Author.Tests.{le-ltb}
 use Rattle.numbers.specs.Flags.{flagNumber}
+use Rattle.numbers.specs.Number.{numberAt}
 use Rattle.numbers.proofs.Little.{word-back, long-back}
 use Rattle.channel.specs.declared.Channel.{Channel}
 use Rattle.channel.specs.declared.ChannelMode.{ChannelMode}
@@ -26,8 +27,8 @@ use Rattle.channel.specs.Modes.{modeNumber, modeNumbered}
 use Rattle.channel.proofs.Modes.{every-mode}
 use Rattle.encoding.specs.declared.loading.Loaded.the-variants.{Whole}
 use Rattle.encoding.specs.Codes.{flagCoded, accessByte, accessCoded, loadStateByte, loadStateCoded, loadTypeByte, loadTypeCoded, readStateByte, readStateCoded, stateByte, stateCoded}
-use Rattle.encoding.specs.Stored.{channelBytes}
-use Rattle.encoding.specs.Loaded.{readableTo, readable, channelAt, loadChannel}
+use Rattle.encoding.specs.Stored.{channelSize, channelBytes}
+use Rattle.encoding.specs.Loaded.{readableTo, readable, channelSpelled, loadChannel}
 use Rattle.encoding.specs.Range.{InRange}
 use Rattle.encoding.proofs.Length.{bytes-length}
 
@@ -102,13 +103,13 @@ state-back (Counting ReloadNextCycle) = refl
 byte-within : (n : ℕ) → ltb 255 (n % 256) ≡ false
 byte-within n = le-ltb _ _ (let h : n % 256 ≤ 255 = omega arith in h)
 
-all-readable : (c : Channel) (rest : List ℕ) → readable (channelBytes c ++ rest) ≡ true
+pub all-readable : (c : Channel) (rest : List ℕ) → readable (channelBytes c ++ rest) ≡ true
 unfolding channelBytes readableTo
 all-readable c rest =
     simp (flag-within, mode-within, access-within, load-state-within, load-type-within, read-state-within, state-within, byte-within)
 
-same-channel : (c : Channel) → InRange c → (rest : List ℕ) → channelAt (channelBytes c ++ rest) ≡ c
-unfolding channelBytes channelAt
+pub same-channel : (c : Channel) → InRange c → (rest : List ℕ) → channelSpelled (channelBytes c ++ rest) ≡ c
+unfolding channelBytes channelSpelled numberAt
 same-channel c r rest =
     simp (
       flag-back,
@@ -129,7 +130,7 @@ same-channel c r rest =
 pub load-stored : (c : Channel) → InRange c → (rest : List ℕ) → loadChannel (channelBytes c ++ rest) ≡ Whole c
 unfolding loadChannel
 load-stored c r rest =
-    let long : 29 ≤ length (channelBytes c ++ rest) = simp (length-append, bytes-length) (omega arith) in
+    let long : channelSize ≤ length (channelBytes c ++ rest) = simp (length-append, bytes-length) (omega arith) in
     simp (le-ltb _ _ long, all-readable c rest, same-channel c r rest)
 
 -- equal bytes are of equal channels

@@ -4,3 +4,4 @@ pub mod Back
 pub mod Order
 pub mod Spelled
 pub mod Only
+pub mod Inner

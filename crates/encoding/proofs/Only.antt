@@ -8,16 +8,16 @@ use lib.Dec.{eqb, ltb}
 use lib.ListN.{length, getD, take}
 use borrow.Author.Tests.{ltb-false}
 use Rattle.numbers.specs.Flags.{flagNumber}
-use Rattle.numbers.specs.Little.{twoBytes, fourBytes, wordAt, longAt}
-use Rattle.numbers.proofs.Little.{two-of, four-of}
+use Rattle.numbers.specs.Little.{twoBytes, wordAt}
+use Rattle.numbers.proofs.Little.{two-of}
 use Rattle.channel.specs.declared.Channel.{Channel}
 use Rattle.channel.specs.Modes.{modeNumber, modeNumbered}
 use Rattle.encoding.specs.declared.loading.Loaded.the-variants.{Whole, Short, Unreadable}
 use Rattle.encoding.specs.Codes.{accessByte, accessCoded, loadStateByte, loadStateCoded, loadTypeByte, loadTypeCoded, readStateByte, readStateCoded, stateByte, stateCoded}
-use Rattle.encoding.specs.Stored.{channelBytes}
-use Rattle.encoding.specs.Loaded.{limits, readable, flagAt, channelAt, loadChannel}
+use Rattle.encoding.specs.Stored.{channelSize, channelBytes}
+use Rattle.encoding.specs.Loaded.{limits, readable, flagAt, channelSpelled, loadChannel}
 use Rattle.encoding.proofs.Readable.{within}
-use Rattle.encoding.proofs.Spelled.{spelled, spelled-part}
+use Rattle.encoding.proofs.Spelled.{spelled, spelled-part, four}
 
 -- A byte within its limit is the byte of what it means.
 
@@ -67,25 +67,18 @@ state-only (suc (suc (suc (suc (suc (suc zero)))))) h = refl
 state-only (suc (suc (suc (suc (suc (suc (suc byte))))))) h = absurd (omega arith)
 
 module _ (bytes : List ℕ) (all : readable bytes ≡ true) where
-  at : (k : ℕ) → k < 29 → getD bytes k 0 ≤ getD limits k 0
-  at k h = within 29 k bytes h all
+  at : (k : ℕ) → k < channelSize → getD bytes k 0 ≤ getD limits k 0
+  at k h = within channelSize k bytes h all
 
-  flag : (k : ℕ) → k < 29 → getD limits k 0 ≡ 1 → flagNumber (flagAt bytes k) ≡ getD bytes k 0
+  flag : (k : ℕ) → k < channelSize → getD limits k 0 ≡ 1 → flagNumber (flagAt bytes k) ≡ getD bytes k 0
   flag k h one = flag-only (getD bytes k 0) (omega (arith, at k h))
 
-  two : (k : ℕ) → k + 1 < 29 → getD limits k 0 ≡ 255 → getD limits (k + 1) 0 ≡ 255
+  two : (k : ℕ) → k + 1 < channelSize → getD limits k 0 ≡ 255 → getD limits (k + 1) 0 ≡ 255
       → twoBytes (wordAt bytes k) ≡ getD bytes k 0 ∷ getD bytes (k + 1) 0 ∷ []
   two k h low high = two-of (getD bytes k 0) (getD bytes (k + 1) 0) (omega (arith, at k (omega arith))) (omega (arith, at (k + 1) h))
 
-  four : fourBytes (longAt bytes 15) ≡ getD bytes 15 0 ∷ getD bytes 16 0 ∷ getD bytes 17 0 ∷ getD bytes 18 0 ∷ []
-  four =
-      four-of (getD bytes 15 0) (getD bytes 16 0) (getD bytes 17 0) (getD bytes 18 0) (omega (arith, at 15 (omega arith)))
-      (omega (arith, at 16 (omega arith)))
-      (omega (arith, at 17 (omega arith)))
-      (omega (arith, at 18 (omega arith)))
-
-  all-spelled : channelBytes (channelAt bytes) ≡ spelled bytes 0 29
-  unfolding channelBytes channelAt
+  all-spelled : channelBytes (channelSpelled bytes) ≡ spelled bytes 0 channelSize
+  unfolding channelBytes channelSpelled
   all-spelled =
       let mode = mode-only (getD bytes 0 0) (at 0 (omega arith)) in
       let access = access-only (getD bytes 1 0) (at 1 (omega arith)) in
@@ -93,24 +86,29 @@ module _ (bytes : List ℕ) (all : readable bytes ≡ true) where
       let load-type = load-type-only (getD bytes 12 0) (at 12 (omega arith)) in
       let state = state-only (getD bytes 14 0) (at 14 (omega arith)) in
       let read-state = read-state-only (getD bytes 25 0) (at 25 (omega arith)) in
+      let cycles =
+      four bytes 15 (omega (arith, at 15 (omega arith))) (omega (arith, at 16 (omega arith))) (omega (arith, at 17 (omega arith))) (omega (arith, at 18 (omega arith))) in
       λ i.
       mode i ∷ access i ∷ flag 2 (omega arith) refl i ∷ flag 3 (omega arith) refl i ∷ flag 4 (omega arith) refl i ∷ two 5 (omega arith) refl refl i
       ++ two 7 (omega arith) refl refl i
       ++ two 9 (omega arith) refl refl i
-      ++ load-state i ∷ load-type i ∷ flag 13 (omega arith) refl i ∷ state i ∷ four i
+      ++ load-state i ∷ load-type i ∷ flag 13 (omega arith) refl i ∷ state i ∷ cycles i
       ++ two 19 (omega arith) refl refl i
       ++ flag 21 (omega arith) refl i ∷ two 22 (omega arith) refl refl i
       ++ flag 24 (omega arith) refl i ∷ read-state i ∷ flag 26 (omega arith) refl i ∷ flag 27 (omega arith) refl i ∷ flag 28 (omega arith) refl i ∷ []
 
-only-by : (bytes : List ℕ) (c : Channel) (short good : Bool) → ltb (length bytes) 29 ≡ short → readable bytes ≡ good
-    → cond short Short (cond good (Whole (channelAt bytes)) Unreadable) ≡ Whole c
-    → channelBytes c ≡ take 29 bytes
+  -- the bytes of a record that is readable are those of the channel that it spells
+  pub form : channelSize ≤ length bytes → channelBytes (channelSpelled bytes) ≡ take channelSize bytes
+  form long = all-spelled ∙ spelled-part bytes 0 channelSize long
+
+only-by : (bytes : List ℕ) (c : Channel) (short good : Bool) → ltb (length bytes) channelSize ≡ short → readable bytes ≡ good
+    → cond short Short (cond good (Whole (channelSpelled bytes)) Unreadable) ≡ Whole c
+    → channelBytes c ≡ take channelSize bytes
 only-by bytes c true good len all e = let z : _≡_ {A = ℕ} 0 1 = cc in absurd (omega arith)
 only-by bytes c false true len all e =
-    let same : channelAt bytes ≡ c = cc in
-    rw (← same) (all-spelled bytes all ∙ spelled-part bytes 0 29 (ltb-false (length bytes) 29 len))
+    let same : channelSpelled bytes ≡ c = cc in rw (← same) (form bytes all (ltb-false (length bytes) channelSize len))
 only-by bytes c false false len all e = let z : _≡_ {A = ℕ} 0 1 = cc in absurd (omega arith)
 
-pub only-bytes : (bytes : List ℕ) (c : Channel) → loadChannel bytes ≡ Whole c → channelBytes c ≡ take 29 bytes
+pub only-bytes : (bytes : List ℕ) (c : Channel) → loadChannel bytes ≡ Whole c → channelBytes c ≡ take channelSize bytes
 unfolding loadChannel
-only-bytes bytes c = only-by bytes c (ltb (length bytes) 29) (readable bytes) refl refl
+only-bytes bytes c = only-by bytes c (ltb (length bytes) channelSize) (readable bytes) refl refl

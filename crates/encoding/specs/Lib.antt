@@ -3,3 +3,4 @@ pub mod Stored
 pub mod Loaded
 pub mod Front
 pub mod Range
+pub mod Inner

@@ -4,7 +4,8 @@ use mathlib.Core.Bool.{Bool, true, false, cond}
 use mathlib.Core.List.{List, [], _∷_}
 use lib.Dec.{ltb}
 use lib.ListN.{length, getD}
-use Rattle.numbers.specs.Little.{wordAt, longAt}
+use Rattle.numbers.specs.Little.{wordAt}
+use Rattle.numbers.specs.Number.{numberAt}
 use Rattle.channel.specs.declared.Channel.{Channel}
 use Rattle.channel.specs.declared.ControlWord.{ControlWord}
 use Rattle.channel.specs.declared.Reloading.{Reloading}
@@ -12,11 +13,11 @@ use Rattle.channel.specs.declared.Load.{Load}
 use Rattle.channel.specs.declared.Counter.{Counter}
 use Rattle.channel.specs.declared.Latch.{Latch}
 use Rattle.channel.specs.declared.Pins.{Pins}
-use Rattle.channel.specs.Fresh.{fresh}
 use Rattle.channel.specs.Modes.{modeNumbered}
 use Rattle.encoding.specs.declared.loading.Loaded.{Loaded}
 use Rattle.encoding.specs.declared.loading.Loaded.the-variants.{Whole, Short, Unreadable}
 use Rattle.encoding.specs.Codes.{flagCoded, accessCoded, loadStateCoded, loadTypeCoded, readStateCoded, stateCoded}
+use Rattle.encoding.specs.Stored.{channelSize}
 
 -- the column "limit" of the table; "of a number's bytes every value is readable"
 abbrev pub limits : List ℕ
@@ -31,25 +32,21 @@ readableTo (suc k) bytes = cond (ltb (getD limits k 0) (getD bytes k 0)) false (
 
 -- "A record is readable when all its 29 bytes are."
 abbrev pub readable : List ℕ → Bool
-readable = readableTo 29
-
--- .. and they are there
-abbrev pub isRecord : List ℕ → Bool
-isRecord bytes = cond (ltb (length bytes) 29) false (readable bytes)
+readable = readableTo channelSize
 
 abbrev pub flagAt : List ℕ → ℕ → Bool
 flagAt bytes k = flagCoded (getD bytes k 0)
 
-abbrev pub controlAt : List ℕ → ControlWord
-controlAt bytes =
+abbrev pub controlSpelled : List ℕ → ControlWord
+controlSpelled bytes =
     record { mode = modeNumbered (getD bytes 0 0); «rw_mode» = accessCoded (getD bytes 1 0); «bcd_mode» = flagAt bytes 2 }
 
-abbrev pub reloadingAt : List ℕ → Reloading
-reloadingAt bytes =
+abbrev pub reloadingSpelled : List ℕ → Reloading
+reloadingSpelled bytes =
     record { «output_on_reload» = flagAt bytes 3; «reload_on_trigger» = flagAt bytes 4; «load_mask» = wordAt bytes 5 }
 
-abbrev pub loadAt : List ℕ → Load
-loadAt bytes =
+abbrev pub loadSpelled : List ℕ → Load
+loadSpelled bytes =
     record {
       «count_register» = wordAt bytes 7;
       «reload_value» = wordAt bytes 9;
@@ -58,42 +55,38 @@ loadAt bytes =
       armed = flagAt bytes 13;
     }
 
-abbrev pub counterAt : List ℕ → Counter
-counterAt bytes =
+abbrev pub counterSpelled : List ℕ → Counter
+counterSpelled bytes =
     record {
       «channel_state» = stateCoded (getD bytes 14 0);
-      «cycles_in_state» = longAt bytes 15;
+      «cycles_in_state» = numberAt bytes 15;
       «counting_element» = wordAt bytes 19;
       ticked = flagAt bytes 21;
     }
 
-abbrev pub latchAt : List ℕ → Latch
-latchAt bytes =
+abbrev pub latchSpelled : List ℕ → Latch
+latchSpelled bytes =
     record {
       «output_latch» = wordAt bytes 22;
       «count_is_latched» = flagAt bytes 24;
       «read_state» = readStateCoded (getD bytes 25 0);
     }
 
-abbrev pub pinsAt : List ℕ → Pins
-pinsAt bytes = record { gate = flagAt bytes 26; output = flagAt bytes 27 }
+abbrev pub pinsSpelled : List ℕ → Pins
+pinsSpelled bytes = record { gate = flagAt bytes 26; output = flagAt bytes 27 }
 
-unfoldable pub channelAt : List ℕ → Channel
-channelAt bytes =
+unfoldable pub channelSpelled : List ℕ → Channel
+channelSpelled bytes =
     record {
-      control = controlAt bytes;
-      reloading = reloadingAt bytes;
-      load = loadAt bytes;
-      counter = counterAt bytes;
-      latch = latchAt bytes;
-      pins = pinsAt bytes;
+      control = controlSpelled bytes;
+      reloading = reloadingSpelled bytes;
+      load = loadSpelled bytes;
+      counter = counterSpelled bytes;
+      latch = latchSpelled bytes;
+      pins = pinsSpelled bytes;
       dirty = flagAt bytes 28;
     }
 
--- what the code spells of any bytes: the fresh channel of too few
-abbrev pub recordIn : List ℕ → Channel
-recordIn bytes = cond (ltb (length bytes) 29) fresh (channelAt bytes)
-
 -- "101 fewer bytes of record .. than it has", "102 the record .. is not readable"
 unfoldable pub loadChannel : List ℕ → Loaded
-loadChannel bytes = cond (ltb (length bytes) 29) Short (cond (readable bytes) (Whole (channelAt bytes)) Unreadable)
+loadChannel bytes = cond (ltb (length bytes) channelSize) Short (cond (readable bytes) (Whole (channelSpelled bytes)) Unreadable)

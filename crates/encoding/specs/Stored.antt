@@ -1,4 +1,4 @@
--- docs/ENCODING.md, "A channel's record": the 29 bytes of a channel, group by group in the order of the table.
+-- docs/ENCODING.md, "A channel's record": the bytes of a channel, group by group in the order of the table.
 use Prim.Native.Nat.{ℕ}
 use mathlib.Core.List.{List, [], _∷_, _++_}
 use Rattle.numbers.specs.Flags.{flagNumber}
@@ -12,6 +12,10 @@ use Rattle.channel.specs.declared.Latch.{Latch}
 use Rattle.channel.specs.declared.Pins.{Pins}
 use Rattle.channel.specs.Modes.{modeNumber}
 use Rattle.encoding.specs.Codes.{accessByte, loadStateByte, loadTypeByte, readStateByte, stateByte}
+
+-- "A channel's record: 29 bytes"
+abbrev pub channelSize : ℕ
+channelSize = 29
 
 -- places 0 to 2
 abbrev pub controlBytes : ControlWord → List ℕ

@@ -5,6 +5,7 @@ mod storing;
 
 pub use loading::load_channel;
 pub use storing::channel_bytes;
-pub use storing::four_bytes;
 pub use storing::put_front;
-pub use storing::two_bytes;
+
+// How many bytes a channel's record has.
+pub const CHANNEL_SIZE: usize = 29;

@@ -1,4 +1,5 @@
-// A channel out of its 29 bytes.
+// A channel out of the bytes of its record.
+use crate::CHANNEL_SIZE;
 use crate::codes;
 use channel::Channel;
 use channel::ChannelMode;
@@ -11,7 +12,9 @@ use channel::Reloading;
 ghost use mathlib.Core.Path.{_≡_};
 ghost use Prim.Native.Nat.{_≤_};
 ghost use lib.ListN.{length};
-ghost use Rattle.encoding.specs.Loaded.{isRecord, recordIn, controlAt, reloadingAt, loadAt, counterAt, latchAt, pinsAt, channelAt, loadChannel};
+ghost use Rattle.encoding.specs.Stored.{channelSize};
+ghost use Rattle.encoding.specs.Loaded.{controlSpelled, reloadingSpelled, loadSpelled, counterSpelled, latchSpelled, pinsSpelled, channelSpelled, loadChannel};
+ghost use Rattle.encoding.specs.Inner.{isRecord, recordIn};
 
 // What loading a channel finds.
 pub enum Loaded {
@@ -23,7 +26,7 @@ pub enum Loaded {
 }
 
 // The greatest byte that is readable at each place.
-const LIMITS: [u8; 29] = [
+const LIMITS: [u8; CHANNEL_SIZE] = [
     5,
     2,
     1,
@@ -55,16 +58,16 @@ const LIMITS: [u8; 29] = [
     1,
 ];
 
-// Whether the bytes are a record: 29 at least, the first 29 within their limits.
+// Whether the bytes are a record: as many as it has at least, and those within their limits.
 pub fn is_record(bytes: &[u8]) -> bool
     ensures { λ r. ⌜ r ≡ isRecord (now (bytes .entry)) ⌝ }
 {
-    if bytes.len() < 29 {
+    if bytes.len() < CHANNEL_SIZE {
         return false;
     }
     let limits = LIMITS;
     let mut i = 0;
-    while i < 29 {
+    while i < CHANNEL_SIZE {
         if limits[i] < bytes[i] {
             return false;
         }
@@ -73,9 +76,9 @@ pub fn is_record(bytes: &[u8]) -> bool
     true
 }
 
-fn control_at(bytes: &[u8]) -> ControlWord
-    requires { ⌜ 29 ≤ length (now bytes) ⌝ }
-    ensures { λ r. ⌜ r ≡ controlAt (now (bytes .entry)) ⌝ }
+fn control_spelled(bytes: &[u8]) -> ControlWord
+    requires { ⌜ channelSize ≤ length (now bytes) ⌝ }
+    ensures { λ r. ⌜ r ≡ controlSpelled (now (bytes .entry)) ⌝ }
 {
     let mode = ChannelMode::numbered(bytes[0]);
     let rw_mode = codes::access_coded(bytes[1]);
@@ -87,9 +90,9 @@ fn control_at(bytes: &[u8]) -> ControlWord
     }
 }
 
-fn reloading_at(bytes: &[u8]) -> Reloading
-    requires { ⌜ 29 ≤ length (now bytes) ⌝ }
-    ensures { λ r. ⌜ r ≡ reloadingAt (now (bytes .entry)) ⌝ }
+fn reloading_spelled(bytes: &[u8]) -> Reloading
+    requires { ⌜ channelSize ≤ length (now bytes) ⌝ }
+    ensures { λ r. ⌜ r ≡ reloadingSpelled (now (bytes .entry)) ⌝ }
 {
     Reloading {
         output_on_reload: codes::flag_coded(bytes[3]),
@@ -98,9 +101,9 @@ fn reloading_at(bytes: &[u8]) -> Reloading
     }
 }
 
-fn load_at(bytes: &[u8]) -> Load
-    requires { ⌜ 29 ≤ length (now bytes) ⌝ }
-    ensures { λ r. ⌜ r ≡ loadAt (now (bytes .entry)) ⌝ }
+fn load_spelled(bytes: &[u8]) -> Load
+    requires { ⌜ channelSize ≤ length (now bytes) ⌝ }
+    ensures { λ r. ⌜ r ≡ loadSpelled (now (bytes .entry)) ⌝ }
 {
     let load_state = codes::load_state_coded(bytes[11]);
     let load_type = codes::load_type_coded(bytes[12]);
@@ -113,24 +116,22 @@ fn load_at(bytes: &[u8]) -> Load
     }
 }
 
-fn counter_at(bytes: &[u8]) -> Counter
-    requires { ⌜ 29 ≤ length (now bytes) ⌝ }
-    ensures { λ r. ⌜ r ≡ counterAt (now (bytes .entry)) ⌝ }
+fn counter_spelled(bytes: &[u8]) -> Counter
+    requires { ⌜ channelSize ≤ length (now bytes) ⌝ }
+    ensures { λ r. ⌜ r ≡ counterSpelled (now (bytes .entry)) ⌝ }
 {
     let channel_state = codes::state_coded(bytes[14]);
-    let low = numbers::word(bytes[15], bytes[16]);
-    let high = numbers::word(bytes[17], bytes[18]);
     Counter {
         channel_state,
-        cycles_in_state: numbers::long(low, high),
+        cycles_in_state: numbers::number_at(bytes, 15),
         counting_element: numbers::word(bytes[19], bytes[20]),
         ticked: codes::flag_coded(bytes[21]),
     }
 }
 
-fn latch_at(bytes: &[u8]) -> Latch
-    requires { ⌜ 29 ≤ length (now bytes) ⌝ }
-    ensures { λ r. ⌜ r ≡ latchAt (now (bytes .entry)) ⌝ }
+fn latch_spelled(bytes: &[u8]) -> Latch
+    requires { ⌜ channelSize ≤ length (now bytes) ⌝ }
+    ensures { λ r. ⌜ r ≡ latchSpelled (now (bytes .entry)) ⌝ }
 {
     let read_state = codes::read_state_coded(bytes[25]);
     Latch {
@@ -140,9 +141,9 @@ fn latch_at(bytes: &[u8]) -> Latch
     }
 }
 
-fn pins_at(bytes: &[u8]) -> Pins
-    requires { ⌜ 29 ≤ length (now bytes) ⌝ }
-    ensures { λ r. ⌜ r ≡ pinsAt (now (bytes .entry)) ⌝ }
+fn pins_spelled(bytes: &[u8]) -> Pins
+    requires { ⌜ channelSize ≤ length (now bytes) ⌝ }
+    ensures { λ r. ⌜ r ≡ pinsSpelled (now (bytes .entry)) ⌝ }
 {
     Pins {
         gate: codes::flag_coded(bytes[26]),
@@ -150,16 +151,16 @@ fn pins_at(bytes: &[u8]) -> Pins
     }
 }
 
-fn channel_at(bytes: &[u8]) -> Channel
-    requires { ⌜ 29 ≤ length (now bytes) ⌝ }
-    ensures { λ r. ⌜ r ≡ channelAt (now (bytes .entry)) ⌝ }
+fn channel_spelled(bytes: &[u8]) -> Channel
+    requires { ⌜ channelSize ≤ length (now bytes) ⌝ }
+    ensures { λ r. ⌜ r ≡ channelSpelled (now (bytes .entry)) ⌝ }
 {
-    let control = control_at(bytes);
-    let reloading = reloading_at(bytes);
-    let load = load_at(bytes);
-    let counter = counter_at(bytes);
-    let latch = latch_at(bytes);
-    let pins = pins_at(bytes);
+    let control = control_spelled(bytes);
+    let reloading = reloading_spelled(bytes);
+    let load = load_spelled(bytes);
+    let counter = counter_spelled(bytes);
+    let latch = latch_spelled(bytes);
+    let pins = pins_spelled(bytes);
     let dirty = codes::flag_coded(bytes[28]);
     Channel {
         control,
@@ -176,20 +177,20 @@ fn channel_at(bytes: &[u8]) -> Channel
 pub fn record_in(bytes: &[u8]) -> Channel
     ensures { λ r. ⌜ r ≡ recordIn (now (bytes .entry)) ⌝ }
 {
-    if bytes.len() < 29 {
+    if bytes.len() < CHANNEL_SIZE {
         return Channel::fresh();
     }
-    channel_at(bytes)
+    channel_spelled(bytes)
 }
 
 pub fn load_channel(bytes: &[u8]) -> Loaded
     ensures { λ r. ⌜ r ≡ loadChannel (now (bytes .entry)) ⌝ }
 {
-    if bytes.len() < 29 {
+    if bytes.len() < CHANNEL_SIZE {
         return Loaded::Short;
     }
     if is_record(bytes) {
-        return Loaded::Whole(channel_at(bytes));
+        return Loaded::Whole(channel_spelled(bytes));
     }
     Loaded::Unreadable
 }

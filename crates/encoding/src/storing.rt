@@ -1,36 +1,11 @@
-// A channel as its 29 bytes, and bytes put at the front of a lent buffer.
+// A channel as the bytes of its record, and bytes put at the front of a lent buffer.
+use crate::CHANNEL_SIZE;
 use crate::codes;
 use channel::Channel;
 ghost use mathlib.Core.Path.{_≡_};
-ghost use Prim.Native.Nat.{_%_};
 ghost use lib.ListN.{length};
-ghost use Rattle.numbers.specs.Little.{twoBytes, fourBytes};
 ghost use Rattle.encoding.specs.Stored.{controlBytes, reloadingBytes, loadBytes, counterBytes, latchBytes, pinsBytes, channelBytes};
 ghost use Rattle.encoding.specs.Front.{fits, putFront};
-
-fn low(n: u32) -> u8
-    ensures { λ r. ⌜ r ≡ n % 256 ⌝ }
-{
-    (n % 256) as u8
-}
-
-pub fn four_bytes(n: u32) -> [u8; 4]
-    ensures { λ r. ⌜ r ≡ fourBytes n ⌝ }
-{
-    [
-        low(n),
-        low(n / 256),
-        low(n / 256 / 256),
-        low(n / 256 / 256 / 256),
-    ]
-}
-
-pub fn two_bytes(n: u16) -> [u8; 2]
-    ensures { λ r. ⌜ r ≡ twoBytes n ⌝ }
-{
-    let wide = n as u32;
-    [low(wide), low(wide / 256)]
-}
 
 fn control_bytes(c: Channel) -> [u8; 3]
     ensures { λ r. ⌜ r ≡ controlBytes (c .control) ⌝ }
@@ -49,7 +24,7 @@ fn reloading_bytes(c: Channel) -> [u8; 4]
     ensures { λ r. ⌜ r ≡ reloadingBytes (c .reloading) ⌝ }
 {
     let rule = c.reloading;
-    let mask = two_bytes(rule.load_mask);
+    let mask = numbers::two_bytes(rule.load_mask);
     [
         numbers::flag_byte(rule.output_on_reload),
         numbers::flag_byte(rule.reload_on_trigger),
@@ -64,8 +39,8 @@ fn load_bytes(c: Channel) -> [u8; 7]
     let l = c.load;
     let load_state = l.load_state;
     let load_type = l.load_type;
-    let register = two_bytes(l.count_register);
-    let reload = two_bytes(l.reload_value);
+    let register = numbers::two_bytes(l.count_register);
+    let reload = numbers::two_bytes(l.reload_value);
     [
         register[0],
         register[1],
@@ -82,8 +57,8 @@ fn counter_bytes(c: Channel) -> [u8; 8]
 {
     let k = c.counter;
     let state = k.channel_state;
-    let cycles = four_bytes(k.cycles_in_state);
-    let element = two_bytes(k.counting_element);
+    let cycles = numbers::four_bytes(k.cycles_in_state);
+    let element = numbers::two_bytes(k.counting_element);
     [
         codes::state_byte(state),
         cycles[0],
@@ -101,7 +76,7 @@ fn latch_bytes(c: Channel) -> [u8; 4]
 {
     let l = c.latch;
     let read_state = l.read_state;
-    let held = two_bytes(l.output_latch);
+    let held = numbers::two_bytes(l.output_latch);
     [
         held[0],
         held[1],
@@ -117,7 +92,7 @@ fn pins_bytes(c: Channel) -> [u8; 2]
     [numbers::flag_byte(p.gate), numbers::flag_byte(p.output)]
 }
 
-pub fn channel_bytes(c: Channel) -> [u8; 29]
+pub fn channel_bytes(c: Channel) -> [u8; CHANNEL_SIZE]
     ensures { λ r. ⌜ r ≡ channelBytes c ⌝ }
 {
     let w = control_bytes(c);

@@ -2,12 +2,13 @@
 use Prim.Native.Nat.{ℕ, _-_, _≤_}
 use mathlib.Core.Bool.{Bool}
 use mathlib.Core.Path.{_≡_, refl}
-use mathlib.Core.List.{List, [], _∷_, append-nil}
+use mathlib.Core.List.{List, [], _∷_, _++_, append-nil}
 use native.Mathlib.Omega.{arith}
 use lib.ListN.{length, take, drop, set, length-drop}
 use lib.Seq.{take-all, drop-length}
 use borrow.Rule.Slice.PartMut.{putMid, post-is}
-use Rattle.event.specs.Event.{firstTwo, eventAt}
+use Rattle.event.specs.declared.Event.the-variants.{Level}
+use Rattle.event.specs.Event.{eventBytes, eventAt}
 
 pub first-two : (xs : List ℕ) (a b : ℕ) → 2 ≤ length xs → set (set xs 0 a) 1 b ≡ a ∷ b ∷ drop 2 xs
 first-two [] a b h = absurd (omega arith)
@@ -20,7 +21,7 @@ whole-tail a xs = take-all (length xs - a) (drop a xs) (simp length-drop (omega 
 
 -- an event written at the front of the tail, seen from the whole
 pub event-back : (channel : ℕ) (level : Bool) (bytes : List ℕ) (place : ℕ) (tail : List ℕ) → place ≤ length bytes
-    → tail ≡ firstTwo channel level (take (length bytes - place) (drop place bytes))
+    → tail ≡ eventBytes (Level channel level) ++ drop 2 (take (length bytes - place) (drop place bytes))
     → putMid place (length bytes - place) bytes tail ≡ eventAt channel level bytes place
 event-back channel level bytes place tail h e =
     simp (post-is place (length bytes) bytes h, drop-length, append-nil) (simp (e, whole-tail))

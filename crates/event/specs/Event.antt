@@ -1,7 +1,7 @@
 -- Document 01, "Output events".
 use Prim.Native.Nat.{ℕ, _+_, _-_}
 use mathlib.Core.Bool.{Bool, true, false, cond}
-use mathlib.Core.List.{List, _∷_, _++_}
+use mathlib.Core.List.{List, [], _∷_, _++_}
 use lib.Dec.{ltb}
 use lib.ListN.{length, take, drop}
 use Rattle.numbers.specs.Flags.{flagNumber}
@@ -28,13 +28,14 @@ eventOf channel was is = cond (sameLevel was is) Unchanged (Level channel is)
 abbrev pub levelEvent : ℕ → Channel → Channel → Event
 levelEvent n old new = eventOf n (old .pins .output) (new .pins .output)
 
--- "two bytes, the channel's place on the board (0 to 2) then level (0 or 1)", at the front of the rest of the lent event bytes
-abbrev pub firstTwo : ℕ → Bool → List ℕ → List ℕ
-firstTwo channel level rest = channel ∷ flagNumber level ∷ drop 2 rest
+-- "two bytes, the channel's place on the board (0 to 2) then level (0 or 1)", and none where the output stays
+abbrev pub eventBytes : Event → List ℕ
+eventBytes Unchanged = []
+eventBytes (Level channel level) = channel ∷ flagNumber level ∷ []
 
 -- "written into the rest of the lent event bytes, from the given place on ... No other byte changes."
 abbrev pub eventAt : ℕ → Bool → List ℕ → ℕ → List ℕ
-eventAt channel level bytes place = take place bytes ++ firstTwo channel level (drop place bytes)
+eventAt channel level bytes place = take place bytes ++ (eventBytes (Level channel level) ++ drop 2 (drop place bytes))
 
 -- what a call replies about its event, and the lent bytes that it leaves
 pub record Placing : Type 0 where

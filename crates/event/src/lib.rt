@@ -3,8 +3,9 @@ use channel::Channel;
 use refusal::Refusal;
 ghost use mathlib.Core.Path.{_≡_};
 ghost use Prim.Native.Nat.{_≤_};
-ghost use lib.ListN.{length};
-ghost use Rattle.event.specs.Event.{sameLevel, eventOf, levelEvent, firstTwo, placing, placeEvent};
+ghost use mathlib.Core.List.{_++_};
+ghost use lib.ListN.{length, drop};
+ghost use Rattle.event.specs.Event.{sameLevel, eventOf, levelEvent, eventBytes, placing, placeEvent};
 
 pub enum Event {
     // The output stays where it is.
@@ -51,7 +52,7 @@ pub fn level_event(n: u8, old: Channel, new: Channel) -> Event
 // The event writer: it is lent the rest of the event bytes, from the place on.
 fn write_event(rest: &mut [u8], channel: u8, level: bool)
     requires { ⌜ 2 ≤ length (now rest) ⌝ }
-    ensures { λ r. ⌜ now (rest .exit) ≡ firstTwo channel level (now (rest .entry)) ⌝ }
+    ensures { λ r. ⌜ now (rest .exit) ≡ eventBytes (Event.Level channel level) ++ drop 2 (now (rest .entry)) ⌝ }
 {
     rest[0] = channel;
     rest[1] = numbers::flag_byte(level);

@@ -5,7 +5,8 @@ use Rattle.channel.specs.declared.Channel.{Channel}
 use Rattle.channel.specs.declared.ChannelState.the-variants.{WaitingForGate, WaitingForLoadCycle}
 use Rattle.channel.specs.Kept.{Kept}
 use Rattle.channel.proofs.Keeps.{kept-same, kept-then, kept-pick, kept-state, kept-output}
-use Rattle.gate.specs.Gate.{loadsOnRise, stopsOnFall, highOnFall, waitsForReload, stopping, raising, edge, afterEdge, withGate, setGate}
+use Rattle.channel.specs.Shared.{waitsForReload}
+use Rattle.gate.specs.Gate.{loadsOnRise, stopsOnFall, highOnFall, stopping, raising, edge, afterEdge, withGate, setGate}
 
 stopping-keeps : (c : Channel) → Kept c (stopping c)
 stopping-keeps c = kept-pick (stopsOnFall (c .control .mode)) (kept-state c WaitingForGate) (kept-same c)

@@ -6,9 +6,10 @@ use Rattle.channel.specs.declared.Counter.{Counter}
 use Rattle.channel.specs.declared.ChannelState.{ChannelState}
 use Rattle.channel.specs.declared.ChannelState.the-variants.{WaitingForGate, WaitingForLoadCycle}
 use Rattle.channel.specs.Record.{withCounter, withPins}
-use Rattle.channel.specs.Shared.{isCounting, changeChannelState, changeOutputState}
+use Rattle.channel.specs.Shared.{waitsForReload, isCounting, changeChannelState, changeOutputState}
 use Rattle.channel.proofs.Pick.{of-pick, pick-same}
-use Rattle.gate.specs.Gate.{loadsOnRise, stopsOnFall, highOnFall, waitsForReload, stopping, edge, afterEdge, withGate, setGate, enters, enteredAt, raises}
+use Rattle.gate.specs.Gate.{loadsOnRise, stopsOnFall, highOnFall, stopping, edge, afterEdge, withGate, setGate}
+use Rattle.gate.specs.Inner.{enters, enteredAt, raises}
 
 abbrev newlyIn : ChannelState → Counter → Counter
 newlyIn s k =

@@ -2,11 +2,10 @@
 use mathlib.Core.Bool.{Bool, true, false, cond}
 use Rattle.channel.specs.declared.Channel.{Channel}
 use Rattle.channel.specs.declared.ChannelMode.{ChannelMode}
-use Rattle.channel.specs.declared.ChannelState.{ChannelState}
-use Rattle.channel.specs.declared.ChannelState.the-variants.{WaitingForReload, WaitingForGate, DeferLoadCycle, WaitingForLoadCycle, WaitingForLoadTrigger, Counting}
+use Rattle.channel.specs.declared.ChannelState.the-variants.{WaitingForGate, WaitingForLoadCycle}
 use Rattle.channel.specs.Record.{withPins}
 use Rattle.channel.specs.Modes.{byMode}
-use Rattle.channel.specs.Shared.{changeChannelState, changeOutputState}
+use Rattle.channel.specs.Shared.{waitsForReload, changeChannelState, changeOutputState}
 
 -- "Rising, modes 1, 2, 3, 5: `WaitingForLoadCycle`."
 abbrev pub loadsOnRise : ChannelMode → Bool
@@ -39,14 +38,6 @@ edge true false c = falling c
 edge true true c = c
 
 -- "Gate edges act unless the state is `WaitingForReload`."
-abbrev pub waitsForReload : ChannelState → Bool
-waitsForReload WaitingForReload = true
-waitsForReload WaitingForGate = false
-waitsForReload DeferLoadCycle = false
-waitsForReload WaitingForLoadCycle = false
-waitsForReload WaitingForLoadTrigger = false
-waitsForReload (Counting f) = false
-
 abbrev pub afterEdge : Channel → Bool → Channel
 afterEdge c level = cond (waitsForReload (c .counter .«channel_state»)) c (edge (c .pins .gate) level c)
 
@@ -56,19 +47,3 @@ withGate c level = withPins c (record { gate = level; output = c .pins .output }
 -- "The gate level is always stored."
 unfoldable pub setGate : Channel → Bool → Channel
 setGate c level = withGate (afterEdge c level) level
-
--- What follows says nothing new and need not be believed: the same by parts, as the code has it (`gate-by-parts`). Whether the edge from a level to a level enters a state, in a mode, and which; and whether it makes the output high
-abbrev pub enters : ChannelMode → Bool → Bool → Bool
-enters m false false = false
-enters m false true = loadsOnRise m
-enters m true false = stopsOnFall m
-enters m true true = false
-
-abbrev pub enteredAt : Bool → ChannelState
-enteredAt true = WaitingForLoadCycle
-enteredAt false = WaitingForGate
-
-abbrev pub raises : ChannelMode → Bool → Bool → Bool
-raises m false level = false
-raises m true false = highOnFall m
-raises m true true = false

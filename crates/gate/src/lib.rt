@@ -4,7 +4,8 @@ use channel::ChannelMode;
 use channel::ChannelState;
 use channel::Counter;
 ghost use mathlib.Core.Path.{_≡_};
-ghost use Rattle.gate.specs.Gate.{loadsOnRise, stopsOnFall, highOnFall, waitsForReload, afterEdge, setGate, enters, enteredAt, raises};
+ghost use Rattle.gate.specs.Gate.{loadsOnRise, stopsOnFall, highOnFall, afterEdge, setGate};
+ghost use Rattle.gate.specs.Inner.{enters, enteredAt, raises};
 
 fn loads_on_rise(mode: ChannelMode) -> bool
     ensures { λ r. ⌜ r ≡ loadsOnRise mode ⌝ }
@@ -42,19 +43,6 @@ fn high_on_fall(mode: ChannelMode) -> bool
         ChannelMode::SquareWaveGenerator => true,
         ChannelMode::SoftwareTriggeredStrobe => false,
         ChannelMode::HardwareTriggeredStrobe => false,
-    }
-}
-
-fn waits_for_reload(state: ChannelState) -> bool
-    ensures { λ r. ⌜ r ≡ waitsForReload state ⌝ }
-{
-    match state {
-        ChannelState::WaitingForReload => true,
-        ChannelState::WaitingForGate => false,
-        ChannelState::DeferLoadCycle => false,
-        ChannelState::WaitingForLoadCycle => false,
-        ChannelState::WaitingForLoadTrigger => false,
-        ChannelState::Counting(_) => false,
     }
 }
 
@@ -106,7 +94,7 @@ fn counter_after(c: Channel, level: bool) -> Counter
     let p = c.pins;
     let k = c.counter;
     let state = k.channel_state;
-    if waits_for_reload(state) {
+    if state.waits_for_reload() {
         return k;
     }
     if enters(mode, p.gate, level) {
@@ -129,7 +117,7 @@ fn output_after(c: Channel, level: bool) -> bool
     let p = c.pins;
     let k = c.counter;
     let state = k.channel_state;
-    if waits_for_reload(state) {
+    if state.waits_for_reload() {
         return p.output;
     }
     if raises(mode, p.gate, level) {

@@ -6,40 +6,40 @@ use mathlib.Core.Path.{_≡_, refl, sym, ap, _∙_}
 use lib.Dec.{eqb}
 use lib.ListN.{length, getD}
 use borrow.Author.Tests.{lt-ltb, le-ltb, eq-eqb, ne-eqb}
-use Rattle.board_encoding.specs.Loaded.{loadBoard}
+use Rattle.board_encoding.specs.Places.{boardSize}
+use Rattle.board_encoding.specs.Loaded.{boardReadable, boardIn, HoldsBoard}
 use Rattle.board_operation.specs.declared.Operation.{Operation}
 use Rattle.board_operation.specs.declared.asked.Asked.{Asked}
 use Rattle.board_operation.specs.declared.asked.Asked.the-variants as asked
-use Rattle.board_operation.specs.declared.making.Numbers.{Numbers}
+use Rattle.board_operation.specs.declared.answering.Numbers.{Numbers}
 use Rattle.board_operation.specs.Made.{operate}
 use Rattle.board_operation.proofs.Leaves.{refused-leaves-all}
 use Rattle.in_bytes.specs.declared.working.Called.the-variants.{Short, Unreadable, Unknown, NoRoom, Refused, Made}
-use Rattle.in_bytes.specs.Parts.{boardReadable, boardIn, Holds, stored}
-use Rattle.in_bytes.specs.Written.{InBytes, told, operated}
-use Rattle.in_bytes.specs.Called.{calling, making, callOn, call}
-use Rattle.in_bytes.proofs.Standing.{loads, kept}
+use Rattle.in_bytes.specs.Called.{boardAnswerSize, calling, stored, making, callOn, call}
+use Rattle.in_bytes.specs.Inner.{InBytes, told, operated}
+use Rattle.in_bytes.proofs.Standing.{kept}
 
 module _ (asks : Asked) (room place : ℕ) (bytes events : List ℕ) where
-  pub short-call : length bytes < 105 → calling Short bytes events ≡ call asks room place bytes events
-  unfolding call loadBoard
+  pub short-call : length bytes < boardSize → calling Short bytes events ≡ call asks room place bytes events
+  unfolding call
   short-call few = simp (lt-ltb _ _ few)
 
-  pub unreadable-call : 105 ≤ length bytes → boardReadable bytes ≡ false → calling Unreadable bytes events ≡ call asks room place bytes events
+  pub unreadable-call : boardSize ≤ length bytes → boardReadable bytes ≡ false → calling Unreadable bytes events ≡ call asks room place bytes events
   unfolding call
-  unreadable-call long is = rw (loads bytes long) (rw is refl)
+  unreadable-call long is = rw (le-ltb _ _ long, is) refl
 
-  whole-call : Holds bytes → call asks room place bytes events ≡ callOn (boardIn bytes) asks room place bytes events
+  whole-call : HoldsBoard bytes → call asks room place bytes events ≡ callOn (boardIn bytes) asks room place bytes events
   unfolding call
-  whole-call h = rw (loads bytes (h .long)) (rw (h .within) refl)
+  whole-call h = rw (le-ltb _ _ (h .long), h .within) refl
 
-  pub unknown-call : Holds bytes → asks ≡ asked.Unknown → calling Unknown bytes events ≡ call asks room place bytes events
+  pub unknown-call : HoldsBoard bytes → asks ≡ asked.Unknown → calling Unknown bytes events ≡ call asks room place bytes events
   unknown-call h is = rw (whole-call h) (rw is refl)
 
-  module _ (h : Holds bytes) (op : Operation) (is : asks ≡ asked.Known op) where
-    pub no-room : room < 16 → calling NoRoom bytes events ≡ call asks room place bytes events
+  module _ (h : HoldsBoard bytes) (op : Operation) (is : asks ≡ asked.Known op) where
+    pub no-room : room < boardAnswerSize → calling NoRoom bytes events ≡ call asks room place bytes events
     no-room few = rw (whole-call h) (rw (is, lt-ltb _ _ few) refl)
 
-    module _ (enough : 16 ≤ room) (r : Numbers) (after then : List ℕ) (m : told r after then ≡ operated (operate (boardIn bytes) op events place) bytes) where
+    module _ (enough : boardAnswerSize ≤ room) (r : Numbers) (after then : List ℕ) (m : told r after then ≡ operated (operate (boardIn bytes) op events place) bytes) where
       says : r ≡ operate (boardIn bytes) op events place .numbers
       says = ap (λ (x : InBytes). x .numbers) m
 

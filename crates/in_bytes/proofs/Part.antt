@@ -16,7 +16,7 @@ use Rattle.board_operation.specs.Made.{Outcome-in-numbers, numbersOf, operate}
 use Rattle.in_bytes.specs.declared.finding.Query.{Query}
 use Rattle.in_bytes.specs.declared.finding.Query.the-variants as query
 use Rattle.in_bytes.specs.declared.finding.Part.the-variants.{Turned, Ask}
-use Rattle.in_bytes.specs.Part.{askPart, partOf, queried, parted}
+use Rattle.in_bytes.specs.Inner.{partOf, queryAnswered, parted}
 use Rattle.turn.specs.Finding as finding
 use Rattle.refusal.specs.declared.Refusal.the-variants.{ChannelAbove2}
 
@@ -25,7 +25,7 @@ abbrev inNumbers : Outcome → Outcome-in-numbers
 inNumbers o = record { numbers = numbersOf (o .reply); board = o .board; events = o .events }
 
 -- a query of a channel that may not be there
-ask-or : (above : Bool) (b : Board) (n : ℕ) (q : Query) (o : Outcome) (events : List ℕ) (place : ℕ) → withEvents events o ≡ queried b n q events
+ask-or : (above : Bool) (b : Board) (n : ℕ) (q : Query) (o : Outcome) (events : List ℕ) (place : ℕ) → withEvents events o ≡ queryAnswered b n q events
     → withEvents events (cond above (refuse 2 b []) o) ≡ parted b (cond above (Turned (finding.refuse ChannelAbove2)) (Ask n q)) events place
 ask-or true b n q o events place is = refl
 ask-or false b n q o events place is = is

@@ -1,4 +1,2 @@
-pub mod Parts
-pub mod Written
-pub mod Part
 pub mod Called
+pub mod Inner

@@ -3,7 +3,7 @@ use board_operation::Operation;
 use refusal::Refusal;
 use turn::finding;
 use turn::finding::Turn;
-ghost use Rattle.in_bytes.specs.Part.{askPart, partOf, FindsPart};
+ghost use Rattle.in_bytes.specs.Inner.{askPart, partOf, FindsPart};
 
 // What can be asked of a channel.
 pub enum Query {

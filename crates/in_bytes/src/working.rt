@@ -1,4 +1,5 @@
 // One operation on a board in lent bytes: what it does to the part that it is about, taken out of the bytes, done by value and put back.
+use crate::BOARD_ANSWER_SIZE;
 use crate::board_readable;
 use crate::channel_in;
 use crate::defer_in;
@@ -14,9 +15,10 @@ use crate::put_time;
 use crate::remainder_in;
 use crate::warp_in;
 use board::Answer;
+use board_encoding::BOARD_SIZE;
 use board_operation::Operation;
+use board_operation::answering::Numbers;
 use board_operation::asked::Asked;
-use board_operation::making::Numbers;
 use board_operation::numbers_of;
 use board_operation::saying;
 use time::SystemTicks;
@@ -28,10 +30,9 @@ ghost use Prim.Native.Nat.{ℕ, _<_};
 ghost use Rattle.turn.specs.Turn.{turned};
 ghost use Rattle.turn.specs.Inner.{OnBoard};
 ghost use Rattle.board_operation.specs.Made.{operate};
-ghost use Rattle.in_bytes.specs.Parts.{boardIn, Holds};
-ghost use Rattle.in_bytes.specs.Part.{queried};
-ghost use Rattle.in_bytes.specs.Written.{told, written, operated};
+ghost use Rattle.board_encoding.specs.Loaded.{boardIn, HoldsBoard};
 ghost use Rattle.in_bytes.specs.Called.{calling, call};
+ghost use Rattle.in_bytes.specs.Inner.{queryAnswered, told, written, operated};
 
 // What a call comes to, before its answer is written.
 pub enum Called {
@@ -50,7 +51,7 @@ pub enum Called {
 
 fn on_channel(bytes: &mut [u8], n: u8, work: Work, events: &mut [u8], place: usize) -> Numbers
     requires { ⌜ n < 3 ⌝ }
-    requires { ⌜ Holds (now bytes) ⌝ }
+    requires { ⌜ HoldsBoard (now bytes) ⌝ }
     ensures { λ r. ⌜ told r (now (bytes .exit)) (now (events .exit)) ≡ written (turned (boardIn (now (bytes .entry))) (Turn.OnChannel n work) (now (events .entry)) place) (now (bytes .entry)) ⌝ }
 {
     let i = n as usize;
@@ -65,7 +66,7 @@ fn on_channel(bytes: &mut [u8], n: u8, work: Work, events: &mut [u8], place: usi
 }
 
 fn elapse(bytes: &mut [u8], given: SystemTicks, next: SystemTicks, defers: bool) -> Numbers
-    requires { ⌜ Holds (now bytes) ⌝ }
+    requires { ⌜ HoldsBoard (now bytes) ⌝ }
     ensures { λ r. ⌜ ((events : List ℕ) (place : ℕ) → told r (now (bytes .exit)) events ≡ written (turned (boardIn (now (bytes .entry))) (Turn.Elapse given next defers) events place) (now (bytes .entry))) ⌝ }
 {
     let divisor = divisor_in(bytes);
@@ -84,7 +85,7 @@ fn elapse(bytes: &mut [u8], given: SystemTicks, next: SystemTicks, defers: bool)
 
 // No tick is owed, or the reset would have been refused.
 fn reset(bytes: &mut [u8]) -> Numbers
-    requires { ⌜ Holds (now bytes) ⌝ }
+    requires { ⌜ HoldsBoard (now bytes) ⌝ }
     ensures { λ r. ⌜ ((events : List ℕ) (place : ℕ) → told r (now (bytes .exit)) events ≡ written (turned (boardIn (now (bytes .entry))) Turn.Reset events place) (now (bytes .entry))) ⌝ }
 {
     let c0 = channel_in(bytes, 0);
@@ -96,7 +97,7 @@ fn reset(bytes: &mut [u8]) -> Numbers
 }
 
 fn work_off(bytes: &mut [u8], stated: u32, events: &mut [u8], place: usize) -> Numbers
-    requires { ⌜ Holds (now bytes) ⌝ }
+    requires { ⌜ HoldsBoard (now bytes) ⌝ }
     ensures { λ r. ⌜ told r (now (bytes .exit)) (now (events .exit)) ≡ written (turned (boardIn (now (bytes .entry))) (Turn.WorkOff stated) (now (events .entry)) place) (now (bytes .entry)) ⌝ }
 {
     let c0 = channel_in(bytes, 0);
@@ -117,7 +118,7 @@ fn work_off(bytes: &mut [u8], stated: u32, events: &mut [u8], place: usize) -> N
 // A turn's channel is one of the board's.
 fn turn_in(bytes: &mut [u8], turn: Turn, events: &mut [u8], place: usize) -> Numbers
     requires { ⌜ OnBoard turn ⌝ }
-    requires { ⌜ Holds (now bytes) ⌝ }
+    requires { ⌜ HoldsBoard (now bytes) ⌝ }
     ensures { λ r. ⌜ told r (now (bytes .exit)) (now (events .exit)) ≡ written (turned (boardIn (now (bytes .entry))) turn (now (events .entry)) place) (now (bytes .entry)) ⌝ }
 {
     match turn {
@@ -132,8 +133,8 @@ fn turn_in(bytes: &mut [u8], turn: Turn, events: &mut [u8], place: usize) -> Num
 
 fn ask(bytes: &mut [u8], n: u8, query: Query) -> Numbers
     requires { ⌜ n < 3 ⌝ }
-    requires { ⌜ Holds (now bytes) ⌝ }
-    ensures { λ r. ⌜ ((events : List ℕ) → told r (now (bytes .exit)) events ≡ written (queried (boardIn (now (bytes .entry))) n query events) (now (bytes .entry))) ⌝ }
+    requires { ⌜ HoldsBoard (now bytes) ⌝ }
+    ensures { λ r. ⌜ ((events : List ℕ) → told r (now (bytes .exit)) events ≡ written (queryAnswered (boardIn (now (bytes .entry))) n query events) (now (bytes .entry))) ⌝ }
 {
     let i = n as usize;
     let c = channel_in(bytes, i);
@@ -151,7 +152,7 @@ fn ask(bytes: &mut [u8], n: u8, query: Query) -> Numbers
 }
 
 fn make(operation: Operation, bytes: &mut [u8], events: &mut [u8], place: usize) -> Numbers
-    requires { ⌜ Holds (now bytes) ⌝ }
+    requires { ⌜ HoldsBoard (now bytes) ⌝ }
     ensures { λ r. ⌜ told r (now (bytes .exit)) (now (events .exit)) ≡ operated (operate (boardIn (now (bytes .entry))) operation (now (events .entry)) place) (now (bytes .entry)) ⌝ }
 {
     let owed = owed_in(bytes);
@@ -166,18 +167,18 @@ fn make(operation: Operation, bytes: &mut [u8], events: &mut [u8], place: usize)
     }
 }
 
-// Room is the number of bytes lent for the answer. All 105 bytes are looked at first, whatever part of them the operation is about.
+// Room is the number of bytes lent for the answer. All bytes of the board are looked at first, whatever part of them the operation is about.
 pub fn call(asked: Asked, room: usize, bytes: &mut [u8], events: &mut [u8], place: usize) -> Called
     ensures { λ r. ⌜ calling r (now (bytes .exit)) (now (events .exit)) ≡ call asked room place (now (bytes .entry)) (now (events .entry)) ⌝ }
 {
-    if bytes.len() < 105 {
+    if bytes.len() < BOARD_SIZE {
         return Called::Short;
     }
     if board_readable(bytes) {
         let Asked::Known(operation) = asked else {
             return Called::Unknown;
         };
-        if room < 16 {
+        if room < BOARD_ANSWER_SIZE {
             return Called::NoRoom;
         }
         let numbers = make(operation, bytes, events, place);

@@ -24,19 +24,19 @@ abbrev pub byteAt : Half → ℕ → ℕ
 byteAt Low v = v % 256
 byteAt High v = v / 256
 
--- a low, a high or a word's second byte; not a word's first
-abbrev pub endsLatch : ReadState → RwMode → Bool
-endsLatch NoRead Lsb = true
-endsLatch NoRead Msb = true
-endsLatch NoRead LsbMsb = false
-endsLatch ReadLsb a = true
+-- a word's first byte: low then high, and no word half read
+abbrev pub startsWord : ReadState → RwMode → Bool
+startsWord NoRead Lsb = false
+startsWord NoRead Msb = false
+startsWord NoRead LsbMsb = true
+startsWord ReadLsb a = false
 
 -- "A low, a high or a word's second byte ends the latch."
 abbrev pub afterRead : Latch → RwMode → Latch
 afterRead l a =
-    cond (endsLatch (l .«read_state») a)
-    (record { «output_latch» = l .«output_latch»; «count_is_latched» = false; «read_state» = NoRead })
+    cond (startsWord (l .«read_state») a)
     (record { «output_latch» = l .«output_latch»; «count_is_latched» = l .«count_is_latched»; «read_state» = ReadLsb })
+    (record { «output_latch» = l .«output_latch»; «count_is_latched» = false; «read_state» = NoRead })
 
 abbrev pub nextHalf : Channel → Half
 nextHalf c = halfAt (c .latch .«read_state») (c .control .«rw_mode»)

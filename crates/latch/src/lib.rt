@@ -7,3 +7,4 @@ pub use reading::ByteRead;
 pub use reading::Half;
 pub use reading::next_half;
 pub use reading::read_byte;
+pub use reading::starts_word;

@@ -4,7 +4,7 @@ use channel::Latch;
 use channel::ReadState;
 use channel::RwMode;
 ghost use mathlib.Core.Path.{_≡_};
-ghost use Rattle.latch.specs.Reading.{halfAt, byteAt, endsLatch, afterRead, nextHalf, readByte};
+ghost use Rattle.latch.specs.Reading.{halfAt, byteAt, startsWord, afterRead, nextHalf, readByte};
 
 // Which half of the output latch a read gives.
 pub enum Half {
@@ -30,17 +30,17 @@ fn half_at(read_state: ReadState, rw_mode: RwMode) -> Half
     }
 }
 
-// Whether a read ends the latch: all do but the first of a word.
-fn ends_latch(read_state: ReadState, rw_mode: RwMode) -> bool
-    ensures { λ r. ⌜ r ≡ endsLatch «read_state» «rw_mode» ⌝ }
+// Whether a read gives the first byte of a word. All others end the latch.
+pub fn starts_word(read_state: ReadState, rw_mode: RwMode) -> bool
+    ensures { λ r. ⌜ r ≡ startsWord «read_state» «rw_mode» ⌝ }
 {
     match read_state {
         ReadState::NoRead => match rw_mode {
-            RwMode::Lsb => true,
-            RwMode::Msb => true,
-            RwMode::LsbMsb => false,
+            RwMode::Lsb => false,
+            RwMode::Msb => false,
+            RwMode::LsbMsb => true,
         },
-        ReadState::ReadLsb => true,
+        ReadState::ReadLsb => false,
     }
 }
 
@@ -68,17 +68,17 @@ fn after_read(l: Latch, rw_mode: RwMode) -> Latch
     ensures { λ r. ⌜ r ≡ afterRead l «rw_mode» ⌝ }
 {
     let read_state = l.read_state;
-    if ends_latch(read_state, rw_mode) {
+    if starts_word(read_state, rw_mode) {
         return Latch {
             output_latch: l.output_latch,
-            count_is_latched: false,
-            read_state: ReadState::NoRead,
+            count_is_latched: l.count_is_latched,
+            read_state: ReadState::ReadLsb,
         };
     }
     Latch {
         output_latch: l.output_latch,
-        count_is_latched: l.count_is_latched,
-        read_state: ReadState::ReadLsb,
+        count_is_latched: false,
+        read_state: ReadState::NoRead,
     }
 }
 

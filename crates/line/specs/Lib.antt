@@ -1,3 +1,4 @@
 pub mod Line
 pub mod Lines
 pub mod Said
+pub mod Inner

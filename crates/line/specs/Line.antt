@@ -4,10 +4,6 @@ use mathlib.Core.List.{List, _++_}
 use lib.ListN.{length, replicate}
 use Rattle.line.specs.declared.Line.{Line}
 
--- room for what an operation answers: `made ` and ten digits, then at most three times ` out 255 255`
-abbrev pub answerRoom : ℕ
-answerRoom = 51
-
 -- room for every line: an operation's has at most 63 bytes, whatever its index, a fault's at most 41
 abbrev pub lineRoom : ℕ
 lineRoom = 64

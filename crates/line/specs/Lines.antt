@@ -9,6 +9,7 @@ use Rattle.refusal.specs.Reply.{Reply, refused, accepted}
 use Rattle.channel.specs.declared.PitType.{PitType}
 use Rattle.channel.specs.declared.PitType.the-variants.{Model8253, Model8254}
 use Rattle.board.specs.Outcome.{Value, done, newPlace, byte, ticks, outputState, channelCount, retriggers, dirtyMarks, timerAccum, worked}
+use Rattle.trace.specs.Judgement.{Faulted}
 use Rattle.text.specs.Ascii.{ascii}
 use Rattle.text.specs.Number.{decimal, hex}
 
@@ -59,7 +60,7 @@ okText = ascii "ok"
 -- "its index, then `refused N`; or `read`, `ticks` and `left`, `out` with an event's two bytes, else `ok`". The events were lent "at place 0", so there is
 -- one where the new place is not 0; "`made N`, then `out` and two numbers for each event" (02, L1)
 abbrev pub valueText : Value → List ℕ → ℕ → List ℕ
-valueText (byte x) events left = readText x
+valueText (byte r) events left = readText (r .byte)
 valueText (ticks number) events left = ticksText number left
 valueText (newPlace place) events left = cond (eqb place 0) okText (outText events)
 valueText (worked made place) events left = madeText made place events
@@ -84,5 +85,5 @@ unfoldable pub endLine : ℕ → List ℕ
 endLine number = ascii "end " ++ decimal number ++ newline
 
 -- "a fault prints only `trace refused N at P`"
-unfoldable pub faultLine : ℕ → ℕ → List ℕ
-faultLine number place = ascii "trace refused " ++ decimal number ++ ascii " at " ++ decimal place ++ newline
+unfoldable pub faultLine : Faulted → List ℕ
+faultLine f = ascii "trace refused " ++ decimal (f .number) ++ ascii " at " ++ decimal (f .place) ++ newline

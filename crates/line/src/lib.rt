@@ -4,18 +4,21 @@ pub mod sentence;
 
 use channel::PitType;
 pub use operation::operation_line;
-use refusal::Refusal;
 pub use sentence::line_of;
+use trace::Fault;
 ghost use mathlib.Core.Path.{_≡_};
 ghost use Prim.Native.Nat.{_≤_};
 ghost use lib.ListN.{length};
-ghost use Rattle.refusal.specs.Refusal.{refusalNumber};
+ghost use Rattle.trace.specs.Answer.{faultOf};
 ghost use Rattle.line.specs.Line.{lineOf, lineRoom};
 ghost use Rattle.line.specs.Lines.{modelName, headLine, endLine, faultLine};
 
+// No line has more bytes.
+pub const LINE_ROOM: usize = 64;
+
 // Bytes of a line and then zeros; the line ends at len.
 pub struct Line {
-    pub bytes: [u8; 64],
+    pub bytes: [u8; LINE_ROOM],
     pub len: usize,
 }
 
@@ -31,7 +34,7 @@ fn model_name(model: PitType) -> [u8; 4]
 pub fn head_line(model: PitType, divisor: u32) -> Line
     ensures { λ r. ⌜ (r ≡ lineOf (headLine model divisor)) × (length (headLine model divisor) ≤ lineRoom) ⌝ }
 {
-    let mut bytes = [0u8; 64];
+    let mut bytes = [0u8; LINE_ROOM];
     let name = model_name(model);
     let mut place = text::put(&mut bytes, 0, b"pit ");
     place = text::put(&mut bytes, place, &name);
@@ -44,21 +47,22 @@ pub fn head_line(model: PitType, divisor: u32) -> Line
 pub fn end_line(number: u32) -> Line
     ensures { λ r. ⌜ (r ≡ lineOf (endLine number)) × (length (endLine number) ≤ lineRoom) ⌝ }
 {
-    let mut bytes = [0u8; 64];
+    let mut bytes = [0u8; LINE_ROOM];
     let mut place = text::put(&mut bytes, 0, b"end ");
     place = text::put_decimal(&mut bytes, place, number as u64);
     place = text::put(&mut bytes, place, b"\n");
     Line { bytes, len: place }
 }
 
-pub fn fault_line(refusal: Refusal, at: usize) -> Line
-    ensures { λ r. ⌜ (r ≡ lineOf (faultLine (refusalNumber refusal) at)) × (length (faultLine (refusalNumber refusal) at) ≤ lineRoom) ⌝ }
+pub fn fault_line(fault: Fault) -> Line
+    ensures { λ r. ⌜ (r ≡ lineOf (faultLine (faultOf fault))) × (length (faultLine (faultOf fault)) ≤ lineRoom) ⌝ }
 {
-    let mut bytes = [0u8; 64];
+    let mut bytes = [0u8; LINE_ROOM];
+    let refusal = fault.refusal;
     let mut place = text::put(&mut bytes, 0, b"trace refused ");
     place = text::put_decimal(&mut bytes, place, refusal.number() as u64);
     place = text::put(&mut bytes, place, b" at ");
-    place = text::put_decimal(&mut bytes, place, at as u64);
+    place = text::put_decimal(&mut bytes, place, fault.place as u64);
     place = text::put(&mut bytes, place, b"\n");
     Line { bytes, len: place }
 }

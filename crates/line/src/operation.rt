@@ -1,4 +1,5 @@
 // The line of an operation: its index, and what it answered.
+use crate::LINE_ROOM;
 use crate::Line;
 use board::Answer;
 use board::Worked;
@@ -9,7 +10,8 @@ ghost use Prim.Native.Nat.{_+_, _≤_};
 ghost use lib.ListN.{length};
 ghost use Rattle.board.specs.Answer.{replyOf};
 ghost use Rattle.text.specs.Put.{put, answered};
-ghost use Rattle.line.specs.Line.{lineOf, answerRoom, lineRoom};
+ghost use Rattle.line.specs.Line.{lineOf, lineRoom};
+ghost use Rattle.line.specs.Inner.{answerRoom};
 ghost use Rattle.line.specs.Lines.{refusedText, readText, ticksText, outText, eventText, madeText, okText, answerText, operationLine};
 
 fn put_refused(out: &mut [u8], place: usize, number: u8) -> usize
@@ -95,7 +97,7 @@ fn put_answer(
 {
     match answer {
         Answer::Refused(refusal) => put_refused(out, place, refusal.number()),
-        Answer::Byte(byte) => put_read(out, place, byte),
+        Answer::Byte(read) => put_read(out, place, read.byte),
         Answer::Ticks(number) => put_ticks(out, place, number, left),
         Answer::Place(at) => {
             if at == 0 {
@@ -116,7 +118,7 @@ fn put_answer(
 pub fn operation_line(index: u32, answer: Answer, events: [u8; 6], left: SystemTicks) -> Line
     ensures { λ r. ⌜ (r ≡ lineOf (operationLine index (replyOf answer) events (left .0))) × (length (operationLine index (replyOf answer) events (left .0)) ≤ lineRoom) ⌝ }
 {
-    let mut bytes = [0u8; 64];
+    let mut bytes = [0u8; LINE_ROOM];
     let mut place = text::put_decimal(&mut bytes, 0, index as u64);
     place = text::put(&mut bytes, place, b" ");
     place = put_answer(&mut bytes, place, answer, events, left);

@@ -6,8 +6,8 @@ use crate::head_line;
 use crate::operation_line;
 use board::Answer;
 use channel::PitType;
-use refusal::Refusal;
 use time::SystemTicks;
+use trace::Fault;
 ghost use mathlib.Core.Path.{_≡_};
 ghost use Prim.Native.Nat.{_≤_};
 ghost use lib.ListN.{length};
@@ -22,7 +22,7 @@ pub enum Sentence {
     // How many operations there were.
     End(u32),
     // Why a trace is refused, and where.
-    Fault(Refusal, usize),
+    Fault(Fault),
 }
 
 pub fn line_of(sentence: Sentence) -> Line
@@ -34,6 +34,6 @@ pub fn line_of(sentence: Sentence) -> Line
             operation_line(index, answer, [e0, e1, e2, e3, e4, e5], left)
         }
         Sentence::End(number) => end_line(number),
-        Sentence::Fault(refusal, at) => fault_line(refusal, at),
+        Sentence::Fault(fault) => fault_line(fault),
     }
 }

@@ -5,15 +5,16 @@ use Rattle.channel.specs.declared.Channel.{Channel}
 use Rattle.channel.specs.declared.ChannelState.{ChannelState}
 use Rattle.channel.specs.declared.ChannelState.the-variants.{WaitingForReload, WaitingForGate, DeferLoadCycle, WaitingForLoadCycle, WaitingForLoadTrigger, Counting}
 use Rattle.channel.specs.Record.{withCounter, withLatch, withDirty}
-use Rattle.channel.specs.Shared.{followed, changeChannelState, putElement}
-use Rattle.load.specs.Cycle.{loadValue, cycleIn, loadCycle, loads, counterAfter}
+use Rattle.channel.specs.Shared.{waitsForCycle, followed, changeChannelState, putElement}
+use Rattle.load.specs.Cycle.{loadValue, cycleIn, loadCycle}
+use Rattle.load.specs.Inner.{counterAfter}
 
 abbrev cycled : ChannelState → Channel → Channel
 cycled s c =
     withDirty
     (withLatch (withCounter c (counterAfter s (c .counter) (loadValue c)))
-    (cond (loads s) (followed (c .latch) (loadValue c)) (c .latch)))
-    (cond (loads s) true (c .dirty))
+    (cond (waitsForCycle s) (followed (c .latch) (loadValue c)) (c .latch)))
+    (cond (waitsForCycle s) true (c .dirty))
 
 cycle-in-parts : (s : ChannelState) (c : Channel) → c .counter .«channel_state» ≡ s → cycleIn s c ≡ cycled s c
 unfolding changeChannelState putElement

@@ -1,9 +1,7 @@
--- Document 01, "Loads and gates": the added load cycle, "until the whole tick exists".
+-- Document 01, "Loads and gates": the added load cycle.
 use Prim.Native.Nat.{ℕ}
-use mathlib.Core.Bool.{Bool, true, false}
 use lib.Bits.{bitAnd}
 use Rattle.channel.specs.declared.Channel.{Channel}
-use Rattle.channel.specs.declared.Counter.{Counter}
 use Rattle.channel.specs.declared.ChannelState.{ChannelState}
 use Rattle.channel.specs.declared.ChannelState.the-variants.{WaitingForReload, WaitingForGate, DeferLoadCycle, WaitingForLoadCycle, WaitingForLoadTrigger, Counting}
 use Rattle.channel.specs.declared.ReloadFlag.the-variants.{Normal}
@@ -25,24 +23,3 @@ cycleIn (Counting f) c = c
 
 unfoldable pub loadCycle : Channel → Channel
 loadCycle c = cycleIn (c .counter .«channel_state») c
-
--- What follows says nothing new and need not be believed: the same by parts, as the code has it (`cycle-by-parts`). Whether the cycle of a state loads, and what it leaves of the counter's group, where the load would move value
-abbrev pub loads : ChannelState → Bool
-loads WaitingForReload = false
-loads WaitingForGate = false
-loads DeferLoadCycle = false
-loads WaitingForLoadCycle = true
-loads WaitingForLoadTrigger = false
-loads (Counting f) = false
-
-abbrev pub newlyIn : ChannelState → ℕ → Counter → Counter
-newlyIn s element k =
-    record { «channel_state» = s; «cycles_in_state» = 0; «counting_element» = element; ticked = k .ticked }
-
-abbrev pub counterAfter : ChannelState → Counter → ℕ → Counter
-counterAfter WaitingForReload k value = k
-counterAfter WaitingForGate k value = k
-counterAfter DeferLoadCycle k value = newlyIn WaitingForLoadCycle (k .«counting_element») k
-counterAfter WaitingForLoadCycle k value = newlyIn (Counting Normal) value k
-counterAfter WaitingForLoadTrigger k value = k
-counterAfter (Counting f) k value = k

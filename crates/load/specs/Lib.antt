@@ -1,3 +1,4 @@
 pub mod Finalize
 pub mod Write
 pub mod Cycle
+pub mod Inner

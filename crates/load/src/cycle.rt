@@ -1,4 +1,4 @@
-// The load cycle: it stands for the tick that loads, until the whole tick exists.
+// The load cycle by hand: what a tick that loads does to the counting element and the state, without the tick.
 use channel::Channel;
 use channel::ChannelState;
 use channel::Counter;
@@ -7,7 +7,8 @@ use channel::ReloadFlag;
 ghost use mathlib.Core.Bool.{true, cond};
 ghost use mathlib.Core.Path.{_≡_};
 ghost use Rattle.channel.specs.Shared.{followed};
-ghost use Rattle.load.specs.Cycle.{loadValue, loadCycle, loads, newlyIn, counterAfter};
+ghost use Rattle.load.specs.Cycle.{loadValue, loadCycle};
+ghost use Rattle.load.specs.Inner.{newlyIn, counterAfter};
 
 // The value that a load moves to the counting element.
 pub fn load_value(c: Channel) -> u16
@@ -16,20 +17,6 @@ pub fn load_value(c: Channel) -> u16
     let l = c.load;
     let rule = c.reloading;
     l.reload_value & rule.load_mask
-}
-
-// Whether the cycle of a state loads.
-fn loads(state: ChannelState) -> bool
-    ensures { λ r. ⌜ r ≡ loads state ⌝ }
-{
-    match state {
-        ChannelState::WaitingForReload => false,
-        ChannelState::WaitingForGate => false,
-        ChannelState::DeferLoadCycle => false,
-        ChannelState::WaitingForLoadCycle => true,
-        ChannelState::WaitingForLoadTrigger => false,
-        ChannelState::Counting(_) => false,
-    }
 }
 
 // The counter's group in a state just entered.
@@ -89,7 +76,7 @@ pub fn load_cycle(c: Channel) -> Channel
     let l = c.latch;
     let state = k.channel_state;
     let value = load_value(c);
-    let loaded = loads(state);
+    let loaded = state.waits_for_cycle();
     let counter = counter_after(k, value);
     let latch = latch_after(loaded, l, value);
     let dirty = marked(loaded, c.dirty);

@@ -1,5 +1,6 @@
 pub mod Modulo
 pub mod Digits
+pub mod Radix
 pub mod Times
 pub mod Flags
 pub mod Little

@@ -11,9 +11,6 @@ twoBytes n = n % 256 ∷ n / 256 % 256 ∷ []
 abbrev pub fourBytes : ℕ → List ℕ
 fourBytes n = n % 256 ∷ n / 256 % 256 ∷ n / 256 / 256 % 256 ∷ n / 256 / 256 / 256 % 256 ∷ []
 
--- the number whose two, or four, bytes stand at a place
+-- the number whose two bytes stand at a place
 abbrev pub wordAt : List ℕ → ℕ → ℕ
 wordAt bytes place = getD bytes place 0 + 256 * getD bytes (place + 1) 0
-
-abbrev pub longAt : List ℕ → ℕ → ℕ
-longAt bytes place = wordAt bytes place + 65536 * wordAt bytes (place + 2)

@@ -6,7 +6,7 @@ use lib.Dec.{ltb}
 use borrow.Author.Tests.{ltb-true, ltb-false}
 use Rattle.channel.specs.declared.Channel.{Channel}
 use Rattle.channel.proofs.Pick.{pick-knowing}
-use Rattle.quiet.specs.Quiet.{quiet}
+use Rattle.quiet.specs.Inner.{quiet}
 use Rattle.quiet.proofs.ManyTicks.{skip-is-ticks, quiet-output}
 use Rattle.owed.specs.Told.{smaller}
 use Rattle.owed.specs.Inner.{alike, Skips}

@@ -7,10 +7,11 @@ use lib.Seq.{take-append-seam, drop-append-seam, drop-drop}
 use Rattle.numbers.specs.Times.{times}
 use Rattle.event.specs.declared.Event.{Event}
 use Rattle.event.specs.declared.Event.the-variants.{Unchanged, Level}
+use Rattle.event.specs.Event.{eventBytes}
 use Rattle.board.specs.declared.Board.{Board}
 use Rattle.owed.specs.BoardTick.{boardTick, tickEvent}
 use Rattle.owed.specs.Worked.{Room, put, size, needed, putAll}
-use Rattle.owed.specs.Told.{eventBytes, tickBytes, allBytes}
+use Rattle.owed.specs.Told.{tickBytes, allBytes}
 
 -- the place is where the one list ends and the other begins
 abbrev pub between : List ℕ → List ℕ → Room

@@ -8,7 +8,7 @@ use lib.ListN.{length}
 use borrow.Author.Tests.{lt-ltb, le-ltb, eq-eqb, ne-eqb}
 use Rattle.channel.specs.declared.Channel.{Channel}
 use Rattle.channel.specs.declared.PitType.{PitType}
-use Rattle.quiet.specs.Quiet.{skip}
+use Rattle.quiet.specs.Inner.{skip}
 use Rattle.event.specs.declared.Event.{Event}
 use Rattle.board.specs.declared.Board.{Board}
 use Rattle.board.specs.Board.{owing}

@@ -10,7 +10,7 @@ use Rattle.numbers.specs.Times.{times}
 use Rattle.channel.specs.declared.Channel.{Channel}
 use Rattle.channel.specs.declared.PitType.{PitType}
 use Rattle.tick.specs.Tick.{tick}
-use Rattle.quiet.specs.Quiet.{quiet, skip}
+use Rattle.quiet.specs.Inner.{quiet, skip}
 use Rattle.refusal.specs.Reply.{accepted}
 use Rattle.board.specs.declared.Board.{Board}
 use Rattle.board.specs.Outcome.{worked}

@@ -1,25 +1,18 @@
 -- What an accepted call that works ticks off has done, said without the steps that it goes by: all of it is proved of `workOff` (proofs/).
 use Prim.Native.Nat.{ℕ, zero, suc, _+_, _-_, _<_, _≤_}
 use mathlib.Core.Bool.{cond}
-use mathlib.Core.List.{List, [], _∷_, _++_}
+use mathlib.Core.List.{List, [], _++_}
 use mathlib.Core.Logic.{_⊎_}
 use mathlib.Core.Path.{_≡_}
 use lib.Dec.{ltb}
 use lib.ListN.{length, take, drop}
-use Rattle.numbers.specs.Flags.{flagNumber}
 use Rattle.numbers.specs.Times.{times}
 use Rattle.refusal.specs.Reply.{refused, accepted}
-use Rattle.event.specs.declared.Event.{Event}
-use Rattle.event.specs.declared.Event.the-variants.{Unchanged, Level}
+use Rattle.event.specs.Event.{eventBytes}
 use Rattle.board.specs.declared.Board.{Board}
 use Rattle.board.specs.Outcome.{Outcome, worked, refuse}
 use Rattle.owed.specs.BoardTick.{boardTick, tickEvent}
 use Rattle.owed.specs.Worked.{workOff}
-
--- "two bytes, the channel's place on the board (0 to 2) then level (0 or 1)"
-abbrev pub eventBytes : Event → List ℕ
-eventBytes Unchanged = []
-eventBytes (Level channel level) = channel ∷ flagNumber level ∷ []
 
 -- the events of one tick, in channel order
 abbrev pub tickBytes : Board → List ℕ

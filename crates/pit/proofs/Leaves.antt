@@ -1,64 +1,62 @@
 -- docs/ENCODING.md: "with such a number no lent byte changes". Where a call on a board or on a trace returns another number than 0, every lent byte is as it was. Assumes
 -- nothing.
 use Prim.Native.Nat.{ℕ, _*_}
-use mathlib.Core.Bool.{Bool, true, false}
+use mathlib.Core.Bool.{Bool, true, false, cond}
 use mathlib.Core.List.{List}
 use mathlib.Core.Path.{_≡_, refl}
 use native.Mathlib.Omega.{arith}
 use lib.Dec.{eqb, ltb}
 use lib.ListN.{length}
-use borrow.Author.Tests.{eqb-false, ne-eqb}
-use Rattle.refusal.specs.Reply.{Reply, refused, accepted}
-use Rattle.trace.specs.Judgement.{Judgement, refusedAt, sound}
+use borrow.Author.Tests.{ne-eqb}
+use Rattle.refusal.specs.Reply.{Reply, refused, accepted, numberIn}
+use Rattle.trace.specs.Judgement.{Judgement, refusedBy, sound}
 use Rattle.trace.specs.Trace.{Trace, readTrace}
 use Rattle.board.specs.declared.Board.{Board}
-use Rattle.board_encoding.specs.declared.loading.Found.{Found}
-use Rattle.board_encoding.specs.declared.loading.Found.the-variants.{Whole, Short, Unreadable}
-use Rattle.board_encoding.specs.Loaded.{loadBoard}
-use Rattle.board_operation.specs.declared.Operation.{Operation}
+use Rattle.board_encoding.specs.Places.{boardSize}
+use Rattle.board_encoding.specs.Loaded.{boardReadable, boardIn}
 use Rattle.board_operation.specs.declared.asked.Asked.{Asked}
-use Rattle.board_operation.specs.declared.asked.Asked.the-variants.{Known, Unknown}
+use Rattle.board_operation.specs.declared.asked.Asked.the-variants as asks
 use Rattle.board_operation.specs.Asked.{operationOf}
-use Rattle.board_operation.specs.Made.{operate}
-use Rattle.board_operation.proofs.Leaves.{refused-leaves-all}
+use Rattle.board_operation.specs.Made.{Outcome-in-numbers, operate}
+use Rattle.in_bytes.specs.declared.working.Called.the-variants.{Short, Unreadable, NoRoom}
+use Rattle.in_bytes.specs.Called.{boardAnswerSize, Calling, calling, making, callOn, call}
 use Rattle.runner.specs.declared.Form.the-variants.{Answers}
 use Rattle.runner.specs.Printed.{roomOf, printed}
 use Rattle.runner.specs.Lent.{Replaying, inRoom, roomFor, answersOf, answersJudged, replayInto, answersInto}
-use Rattle.pit.specs.Board.{Called, settled, calledOn, calledFound, boardOperation, newStatus, newAfter}
-use Rattle.pit.specs.Trace.{ReplayCalled, replayCalled, replyStatus, replyAfter, replayCall}
+use Rattle.pit.specs.Board.{BoardCalled, answeredBy, boardOperation, newStatus, newAfter}
+use Rattle.pit.specs.Trace.{ReplayCalled, replayCalled, replyAfter, replayCall}
 
 -- "no lent byte changes", of a call on a board
-abbrev pub Left : Called → List ℕ → List ℕ → List ℕ → Type 0
+abbrev pub Left : BoardCalled → List ℕ → List ℕ → List ℕ → Type 0
 Left k bytes events answer = (k .bytes ≡ bytes) × (k .events ≡ events) × (k .answer ≡ answer)
 
-module _ (place : ℕ) (bytes events answer : List ℕ) where
-  settled-leaves : (b : Board) (op : Operation) (zero : Bool) → eqb (operate b op events place .numbers .refusal) 0 ≡ zero
-      → (settled (operate b op events place) bytes answer .status ≡ 0 → ⊥) → Left (settled (operate b op events place) bytes answer) bytes events answer
-  settled-leaves b op true is set = absurd (set (simp is))
-  settled-leaves b op false is set =
-      rw is (refl, refused-leaves-all b op events place (eqb-false (operate b op events place .numbers .refusal) 0 is) .1, refl)
+module _ (bytes events answer : List ℕ) where
+  -- what a call comes to leaves the lent bytes, unless it returns 0
+  abbrev LeavesAll : Calling → Type 0
+  LeavesAll k = (answeredBy k answer .status ≡ 0 → ⊥) → Left (answeredBy k answer) bytes events answer
 
-  room-leaves : (b : Board) (op : Operation) (short : Bool) → ltb (length answer) 16 ≡ short
-      → (calledOn b (Known op) place bytes events answer .status ≡ 0 → ⊥) → Left (calledOn b (Known op) place bytes events answer) bytes events answer
-  unfolding calledOn
-  room-leaves b op true is = rw is (λ set. (refl, refl, refl))
-  room-leaves b op false is = rw is (settled-leaves b op (eqb (operate b op events place .numbers .refusal) 0) refl)
+  made-leaves : (o : Outcome-in-numbers) (zero : Bool) → eqb (o .numbers .refusal) 0 ≡ zero → LeavesAll (making o bytes events)
+  made-leaves o true is = rw is (λ set. absurd (set refl))
+  made-leaves o false is = rw is (λ set. (refl, refl, refl))
 
-  called-leaves : (b : Board) (asked : Asked) → (calledOn b asked place bytes events answer .status ≡ 0 → ⊥) → Left (calledOn b asked place bytes events answer) bytes events answer
-  unfolding calledOn
-  called-leaves b Unknown set = (refl, refl, refl)
-  called-leaves b (Known op) set = room-leaves b op (ltb (length answer) 16) refl set
+  room-leaves : (short : Bool) (o : Outcome-in-numbers) → LeavesAll (cond short (calling NoRoom bytes events) (making o bytes events))
+  room-leaves true o = λ set. (refl, refl, refl)
+  room-leaves false o = made-leaves o (eqb (o .numbers .refusal) 0) refl
 
-  found-leaves : (found : Found) (b : Board) (asked : Asked) → (calledFound found b asked place bytes events answer .status ≡ 0 → ⊥)
-      → Left (calledFound found b asked place bytes events answer) bytes events answer
-  found-leaves Short b asked set = (refl, refl, refl)
-  found-leaves Unreadable b asked set = (refl, refl, refl)
-  found-leaves Whole b asked set = called-leaves b asked set
+  on-leaves : (b : Board) (asked : Asked) (room place : ℕ) → LeavesAll (callOn b asked room place bytes events)
+  on-leaves b asks.Unknown room place = λ set. (refl, refl, refl)
+  on-leaves b (asks.Known op) room place = room-leaves (ltb room boardAnswerSize) (operate b op events place)
 
-  pub board-call-leaves : (code target number : ℕ) → (boardOperation code target number place bytes events answer .status ≡ 0 → ⊥)
+  bytes-leave : (short good : Bool) (k : Calling) → LeavesAll k → LeavesAll (cond short (calling Short bytes events) (cond good k (calling Unreadable bytes events)))
+  bytes-leave true good k leaves = λ set. (refl, refl, refl)
+  bytes-leave false true k leaves = leaves
+  bytes-leave false false k leaves = λ set. (refl, refl, refl)
+
+  pub board-call-leaves : (code target number place : ℕ) → (boardOperation code target number place bytes events answer .status ≡ 0 → ⊥)
       → Left (boardOperation code target number place bytes events answer) bytes events answer
-  unfolding boardOperation
-  board-call-leaves code target number = found-leaves (loadBoard bytes .found) (loadBoard bytes .board) (operationOf code target number)
+  unfolding boardOperation call
+  board-call-leaves code target number place =
+      bytes-leave (ltb (length bytes) boardSize) (boardReadable bytes) _ (on-leaves (boardIn bytes) (operationOf code target number) (length answer) place)
 
 pub new-call-leaves : (model divisor : ℕ) (bytes : List ℕ) → (newStatus model divisor bytes ≡ 0 → ⊥) → newAfter model divisor bytes ≡ bytes
 unfolding newAfter
@@ -79,12 +77,12 @@ module _ (out answer : List ℕ) where
       let never : accepted (length text) ≡ refused number = simp is at told in
       let z : _≡_ {A = ℕ} 0 1 = cc never in absurd (omega arith)
 
-  replayed-leaves : (reply : Reply ℕ) (after : List ℕ) → ((number : ℕ) → reply ≡ refused number → after ≡ out) → (replyStatus reply ≡ 0 → ⊥)
-      → ReplayLeft (replayCalled (replyStatus reply) after (replyAfter reply answer)) out answer
+  replayed-leaves : (reply : Reply ℕ) (after : List ℕ) → ((number : ℕ) → reply ≡ refused number → after ≡ out) → (numberIn reply ≡ 0 → ⊥)
+      → ReplayLeft (replayCalled (numberIn reply) after (replyAfter reply answer)) out answer
   replayed-leaves (refused number) after leaves set = (leaves number refl, refl)
   replayed-leaves (accepted n) after leaves set = absurd (set refl)
 
-  replay-leaves : (r : Replaying) → Leaves r out → (short : Bool) → ltb (length answer) 16 ≡ short → (replayCall r out answer .status ≡ 0 → ⊥)
+  replay-leaves : (r : Replaying) → Leaves r out → (short : Bool) → ltb (length answer) boardAnswerSize ≡ short → (replayCall r out answer .status ≡ 0 → ⊥)
       → ReplayLeft (replayCall r out answer) out answer
   unfolding replayCall
   replay-leaves r leaves true is = rw is (λ set. (refl, refl))
@@ -95,7 +93,7 @@ module _ (out answer : List ℕ) where
   into-leaves trace = room-leaves-out (roomFor (readTrace trace)) (printed trace) (ltb (length out) (roomFor (readTrace trace))) refl
 
   judged-leaves : (judged : Judgement Trace) → Leaves (answersJudged judged out) out
-  judged-leaves (refusedAt number place) = λ n told. refl
+  judged-leaves (refusedBy f) = λ n told. refl
   judged-leaves (sound t) = room-leaves-out (roomOf Answers * length (t .operations)) (answersOf t) (ltb (length out) (roomOf Answers * length (t .operations))) refl
 
   answers-leave : (trace : List ℕ) → Leaves (answersInto trace out) out
@@ -104,8 +102,8 @@ module _ (out answer : List ℕ) where
 
   pub replay-call-leaves : (trace : List ℕ) → (replayCall (replayInto trace out) out answer .status ≡ 0 → ⊥)
       → ReplayLeft (replayCall (replayInto trace out) out answer) out answer
-  replay-call-leaves trace = replay-leaves (replayInto trace out) (into-leaves trace) (ltb (length answer) 16) refl
+  replay-call-leaves trace = replay-leaves (replayInto trace out) (into-leaves trace) (ltb (length answer) boardAnswerSize) refl
 
   pub answers-call-leaves : (trace : List ℕ) → (replayCall (answersInto trace out) out answer .status ≡ 0 → ⊥)
       → ReplayLeft (replayCall (answersInto trace out) out answer) out answer
-  answers-call-leaves trace = replay-leaves (answersInto trace out) (answers-leave trace) (ltb (length answer) 16) refl
+  answers-call-leaves trace = replay-leaves (answersInto trace out) (answers-leave trace) (ltb (length answer) boardAnswerSize) refl

@@ -1,14 +1,9 @@
--- A board that is made: an answer that is no refusal has number 0, and no refusal has it. Assumes nothing.
-use mathlib.Core.Bool.{false}
+-- A board that is made: an answer that is no refusal has number 0. Assumes nothing.
 use mathlib.Core.List.{[], _∷_}
 use mathlib.Core.Path.{_≡_, refl}
 use types.Run.{OneOf, miss}
 use denote.Enum.Declared.{tagOf}
-use lib.Dec.{eqb}
 use Rattle.refusal.specs.Reply.{numberIn}
-use Rattle.refusal.specs.declared.Refusal.{Refusal}
-use Rattle.refusal.specs.declared.Refusal.the-variants.{PortUnknown, ChannelAbove2, DivisorZero, TicksBelowWarp, RemainderTooLarge, TooManyCounts, PlacePastEnd, NoRoom, TraceEnds, SettingsCount, TooManyOperations, UnknownCode, BytesAfter, RuleBroken, TooManyTicks, TicksOwed}
-use Rattle.refusal.specs.Refusal.{refusalNumber}
 use Rattle.board.specs.declared.Answer.{Answer}
 use Rattle.board.specs.declared.Answer.the-variants.{Refused, Done, Place, Byte, Ticks, OutputState, Count, Retriggers, Dirty, Worked}
 use Rattle.board.specs.Answer.{replyOf}
@@ -25,21 +20,3 @@ not-refused (Count c) other = refl
 not-refused (Retriggers answer) other = refl
 not-refused (Dirty dirty counting ticked) other = refl
 not-refused (Worked w) other = refl
-
-pub number-set : (refusal : Refusal) → eqb (refusalNumber refusal) 0 ≡ false
-number-set PortUnknown = refl
-number-set ChannelAbove2 = refl
-number-set DivisorZero = refl
-number-set TicksBelowWarp = refl
-number-set RemainderTooLarge = refl
-number-set TooManyCounts = refl
-number-set PlacePastEnd = refl
-number-set NoRoom = refl
-number-set TraceEnds = refl
-number-set SettingsCount = refl
-number-set TooManyOperations = refl
-number-set UnknownCode = refl
-number-set BytesAfter = refl
-number-set RuleBroken = refl
-number-set TooManyTicks = refl
-number-set TicksOwed = refl

@@ -7,5 +7,5 @@ use Rattle.numbers.specs.Little.{fourBytes}
 abbrev pub eightBytes : ℕ → List ℕ
 eightBytes n = fourBytes (n % 4294967296) ++ fourBytes (n / 4294967296)
 
-abbrev pub answerBytes : ℕ → ℕ → ℕ → List ℕ
-answerBytes a b c = eightBytes a ++ fourBytes b ++ fourBytes c
+abbrev pub boardAnswerBytes : ℕ → ℕ → ℕ → List ℕ
+boardAnswerBytes a b c = eightBytes a ++ fourBytes b ++ fourBytes c

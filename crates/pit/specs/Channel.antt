@@ -1,5 +1,5 @@
 -- docs/ENCODING.md, "Exported functions": what the calls on a channel return, and the lent bytes as they leave them.
-use Prim.Native.Nat.{ℕ}
+use Prim.Native.Nat.{ℕ, _+_}
 use mathlib.Core.Bool.{cond}
 use mathlib.Core.Path.{_≡_}
 use mathlib.Core.List.{List, _∷_, _++_}
@@ -11,7 +11,7 @@ use Rattle.channel.specs.Queries.{getOutputState}
 use Rattle.encoding.specs.declared.loading.Loaded.{Loaded}
 use Rattle.encoding.specs.declared.loading.Loaded.the-variants.{Whole, Short, Unreadable}
 use Rattle.numbers.specs.Little.{twoBytes}
-use Rattle.encoding.specs.Stored.{channelBytes}
+use Rattle.encoding.specs.Stored.{channelSize, channelBytes}
 use Rattle.encoding.specs.Loaded.{loadChannel}
 use Rattle.encoding.specs.Front.{fits, putFront}
 use Rattle.channel_operation.specs.declared.asked.Asked.{Asked}
@@ -22,10 +22,14 @@ use Rattle.channel_operation.specs.Made.{operate}
 use Rattle.pit.specs.declared.channel_calls.Outcome.{Outcome}
 use Rattle.pit.specs.declared.channel_calls.Outcome.the-variants.{Refused, Done}
 
+-- "An answer: 7 bytes": a level, then three numbers of two bytes
+abbrev pub channelAnswerSize : ℕ
+channelAnswerSize = 1 + 2 + 2 + 2
+
 -- "103 the operation's code is not in the table, or its number, setting or target is not allowed there", "104 fewer bytes of answer than it has: 7 for a channel"
 abbrev pub outcomeAsked : Channel → Asked → ℕ → Outcome
 outcomeAsked c Unknown room = Refused 103
-outcomeAsked c (Known op) room = cond (ltb room 7) (Refused 104) (Done (operate c op))
+outcomeAsked c (Known op) room = cond (ltb room channelAnswerSize) (Refused 104) (Done (operate c op))
 
 -- "101 fewer bytes of record .. than it has", "102 the record .. is not readable"; room is the number of bytes lent for the answer
 abbrev pub outcomeOn : Loaded → Asked → ℕ → Outcome
@@ -37,8 +41,8 @@ unfoldable pub outcomeOf : List ℕ → ℕ → ℕ → ℕ → ℕ → Outcome
 outcomeOf bytes room code number setting = outcomeOn (loadChannel bytes) (operationOf code number setting) room
 
 -- "Byte 0 is the output level after the operation. Then three numbers of two bytes each"
-abbrev pub answerBytes : Made → List ℕ
-answerBytes made =
+abbrev pub channelAnswerBytes : Made → List ℕ
+channelAnswerBytes made =
     flagNumber (getOutputState (made .channel)) ∷ twoBytes (made .first) ++ twoBytes (made .second) ++ twoBytes (made .third)
 
 -- "Each returns 0 or .. a number of the table; with such a number no lent byte changes."
@@ -58,11 +62,11 @@ recordBytes made = channelBytes (made .channel)
 pub record Settles (o : Outcome) (bytes answer : List ℕ) (returned : ℕ) (bytes-then answer-then : List ℕ) : Type 0 where
   pub number : returned ≡ status o
   pub bytes-are : bytes-then ≡ after recordBytes o bytes
-  pub answer-is : answer-then ≡ after answerBytes o answer
+  pub answer-is : answer-then ≡ after channelAnswerBytes o answer
 
 -- "writes the fresh channel, over whatever bytes are there"
 abbrev pub freshStatus : List ℕ → ℕ
-freshStatus bytes = cond (fits 29 bytes) 0 101
+freshStatus bytes = cond (fits channelSize bytes) 0 101
 
 abbrev pub freshAfter : List ℕ → List ℕ
 freshAfter bytes = putFront (channelBytes fresh) bytes

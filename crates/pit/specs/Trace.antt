@@ -6,8 +6,9 @@ use lib.Dec.{ltb}
 use lib.ListN.{length}
 use Rattle.refusal.specs.Reply.{Reply, refused, accepted, numberIn}
 use Rattle.encoding.specs.Front.{putFront}
+use Rattle.in_bytes.specs.Called.{boardAnswerSize}
 use Rattle.runner.specs.Lent.{Replaying}
-use Rattle.pit.specs.Answer.{answerBytes}
+use Rattle.pit.specs.Answer.{boardAnswerBytes}
 
 -- what a call returns, and the lent and the answer's bytes after it
 pub record ReplayCalled : Type 0 where
@@ -18,17 +19,13 @@ pub record ReplayCalled : Type 0 where
 abbrev pub replayCalled : ℕ → List ℕ → List ℕ → ReplayCalled
 replayCalled status out answer = record { status = status; out = out; answer = answer }
 
--- "Each returns 0 or a number of the table"
-abbrev pub replyStatus : Reply ℕ → ℕ
-replyStatus = numberIn
-
 -- "the first number of its answer of 16 bytes is how many bytes those are"
 abbrev pub replyAfter : Reply ℕ → List ℕ → List ℕ
 replyAfter (refused number) answer = answer
-replyAfter (accepted n) answer = putFront (answerBytes n 0 0) answer
+replyAfter (accepted n) answer = putFront (boardAnswerBytes n 0 0) answer
 
--- "104 fewer bytes of answer than it has: .. 16 for .. a trace"
+-- "104 fewer bytes of answer than it has: .. 16 for .. a trace"; "Each returns 0 or a number of the table"
 unfoldable pub replayCall : Replaying → List ℕ → List ℕ → ReplayCalled
 replayCall r out answer =
-    cond (ltb (length answer) 16) (replayCalled 104 out answer)
-    (replayCalled (replyStatus (r .reply)) (r .bytes) (replyAfter (r .reply) answer))
+    cond (ltb (length answer) boardAnswerSize) (replayCalled 104 out answer)
+    (replayCalled (numberIn (r .reply)) (r .bytes) (replyAfter (r .reply) answer))

@@ -1,12 +1,13 @@
-// The answer of a call on a board or a trace: three numbers in 16 bytes.
+// The answer of a call on a board or a trace: three numbers in bytes.
+use in_bytes::BOARD_ANSWER_SIZE;
 ghost use mathlib.Core.Path.{_≡_};
-ghost use Rattle.pit.specs.Answer.{eightBytes, answerBytes};
+ghost use Rattle.pit.specs.Answer.{eightBytes, boardAnswerBytes};
 
 fn eight_bytes(n: u64) -> [u8; 8]
     ensures { λ r. ⌜ r ≡ eightBytes n ⌝ }
 {
-    let low = encoding::four_bytes((n % 4294967296) as u32);
-    let high = encoding::four_bytes((n / 4294967296) as u32);
+    let low = numbers::four_bytes((n % 4294967296) as u32);
+    let high = numbers::four_bytes((n / 4294967296) as u32);
     [
         low[0],
         low[1],
@@ -19,12 +20,12 @@ fn eight_bytes(n: u64) -> [u8; 8]
     ]
 }
 
-pub(crate) fn answer_bytes(first: u64, second: u32, third: u32) -> [u8; 16]
-    ensures { λ r. ⌜ r ≡ answerBytes first second third ⌝ }
+pub(crate) fn board_answer_bytes(first: u64, second: u32, third: u32) -> [u8; BOARD_ANSWER_SIZE]
+    ensures { λ r. ⌜ r ≡ boardAnswerBytes first second third ⌝ }
 {
     let a = eight_bytes(first);
-    let b = encoding::four_bytes(second);
-    let c = encoding::four_bytes(third);
+    let b = numbers::four_bytes(second);
+    let c = numbers::four_bytes(third);
     [
         a[0],
         a[1],

@@ -6,18 +6,19 @@ use crate::UNREADABLE_RECORD;
 use crate::answering;
 use board::Answer;
 use board::Board;
-use board_operation::making::Numbers;
+use board_encoding::BOARD_SIZE;
+use board_operation::answering::Numbers;
 use channel::PitType;
 use in_bytes::working::Called;
 ghost use mathlib.Core.Path.{_≡_};
 ghost use Rattle.encoding.specs.Front.{putFront};
-ghost use Rattle.pit.specs.Board.{numbersAnswer, newStatus, newAfter, called, boardOperation};
+ghost use Rattle.pit.specs.Board.{numbersAnswer, newStatus, newAfter, boardCalled, boardOperation};
 
 // The numbers of an operation that was made.
 fn answered(numbers: Numbers, answer: &mut [u8])
     ensures { λ _. ⌜ now (answer .exit) ≡ putFront (numbersAnswer numbers) (now (answer .entry)) ⌝ }
 {
-    let said = answering::answer_bytes(numbers.first, numbers.second, numbers.third);
+    let said = answering::board_answer_bytes(numbers.first, numbers.second, numbers.third);
     encoding::put_front(answer, &said);
 }
 
@@ -31,7 +32,7 @@ pub extern "C" fn pit_board_operation(
     target: u16,
     number: u32,
 ) -> u32
-    ensures { λ r. ⌜ called r (now (bytes .exit)) (now (events .exit)) (now (answer .exit)) ≡ boardOperation code target number place (now (bytes .entry)) (now (events .entry)) (now (answer .entry)) ⌝ }
+    ensures { λ r. ⌜ boardCalled r (now (bytes .exit)) (now (events .exit)) (now (answer .exit)) ≡ boardOperation code target number place (now (bytes .entry)) (now (events .entry)) (now (answer .entry)) ⌝ }
 {
     let asked = board_operation::operation_of(code, target, number);
     let room = answer.len();
@@ -53,7 +54,7 @@ pub extern "C" fn pit_board_operation(
 pub extern "C" fn pit_board_new(bytes: &mut [u8], model: u8, divisor: u32) -> u32
     ensures { λ r. ⌜ (r ≡ newStatus model divisor (now (bytes .entry))) × (now (bytes .exit) ≡ newAfter model divisor (now (bytes .entry))) ⌝ }
 {
-    if bytes.len() < 105 {
+    if bytes.len() < BOARD_SIZE {
         return SHORT_RECORD;
     }
     if 1 < model {

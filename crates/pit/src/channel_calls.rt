@@ -10,7 +10,10 @@ use encoding::loading::Loaded;
 ghost use mathlib.Core.Path.{_≡_};
 ghost use lib.ListN.{length};
 ghost use Rattle.encoding.specs.Front.{putFront};
-ghost use Rattle.pit.specs.Channel.{outcomeOf, answerBytes, recordBytes, Settles, freshStatus, freshAfter};
+ghost use Rattle.pit.specs.Channel.{outcomeOf, channelAnswerBytes, recordBytes, Settles, freshStatus, freshAfter};
+
+// A level, then three numbers of two bytes.
+pub const CHANNEL_ANSWER_SIZE: usize = 1 + 2 + 2 + 2;
 
 // What an operation comes to, before anything is stored.
 pub enum Outcome {
@@ -31,7 +34,7 @@ fn outcome_of(bytes: &[u8], room: usize, code: u8, number: u8, setting: u8) -> O
             match asked {
                 Asked::Unknown => Outcome::Refused(UNKNOWN_OPERATION),
                 Asked::Known(op) => {
-                    if room < 7 {
+                    if room < CHANNEL_ANSWER_SIZE {
                         return Outcome::Refused(SHORT_ANSWER);
                     }
                     Outcome::Done(channel_operation::operate(c, op))
@@ -41,14 +44,14 @@ fn outcome_of(bytes: &[u8], room: usize, code: u8, number: u8, setting: u8) -> O
     }
 }
 
-fn answer_bytes(made: Made) -> [u8; 7]
-    ensures { λ r. ⌜ r ≡ answerBytes made ⌝ }
+fn channel_answer_bytes(made: Made) -> [u8; CHANNEL_ANSWER_SIZE]
+    ensures { λ r. ⌜ r ≡ channelAnswerBytes made ⌝ }
 {
     let c = made.channel;
     let level = numbers::flag_byte(c.get_output_state());
-    let first = encoding::two_bytes(made.first);
-    let second = encoding::two_bytes(made.second);
-    let third = encoding::two_bytes(made.third);
+    let first = numbers::two_bytes(made.first);
+    let second = numbers::two_bytes(made.second);
+    let third = numbers::two_bytes(made.third);
     [
         level,
         first[0],
@@ -61,12 +64,12 @@ fn answer_bytes(made: Made) -> [u8; 7]
 }
 
 fn write_back(bytes: &mut [u8], answer: &mut [u8], made: Made)
-    ensures { λ _. ⌜ (now (bytes .exit) ≡ putFront (recordBytes made) (now (bytes .entry))) × (now (answer .exit) ≡ putFront (answerBytes made) (now (answer .entry))) ⌝ }
+    ensures { λ _. ⌜ (now (bytes .exit) ≡ putFront (recordBytes made) (now (bytes .entry))) × (now (answer .exit) ≡ putFront (channelAnswerBytes made) (now (answer .entry))) ⌝ }
 {
     let c = made.channel;
     let next = encoding::channel_bytes(c);
     encoding::put_front(bytes, &next);
-    let answered = answer_bytes(made);
+    let answered = channel_answer_bytes(made);
     encoding::put_front(answer, &answered);
 }
 

@@ -2,18 +2,20 @@
 use crate::SHORT_ANSWER;
 use crate::SHORT_OUT;
 use crate::answering;
+use in_bytes::BOARD_ANSWER_SIZE;
 use runner::lending::Replayed;
 ghost use mathlib.Core.Path.{_≡_};
+ghost use Rattle.refusal.specs.Reply.{numberIn};
 ghost use Rattle.runner.specs.Lent.{replyIn, replayInto, answersInto};
-ghost use Rattle.pit.specs.Trace.{replyStatus, replyAfter, replayCalled, replayCall};
+ghost use Rattle.pit.specs.Trace.{replyAfter, replayCalled, replayCall};
 
 // The status of a replay, and its length in the answer.
 fn settle(replayed: Replayed, answer: &mut [u8]) -> u32
-    ensures { λ r. ⌜ (r ≡ replyStatus (replyIn replayed)) × (now (answer .exit) ≡ replyAfter (replyIn replayed) (now (answer .entry))) ⌝ }
+    ensures { λ r. ⌜ (r ≡ numberIn (replyIn replayed)) × (now (answer .exit) ≡ replyAfter (replyIn replayed) (now (answer .entry))) ⌝ }
 {
     match replayed {
         Replayed::Written(n) => {
-            let answered = answering::answer_bytes(n as u64, 0, 0);
+            let answered = answering::board_answer_bytes(n as u64, 0, 0);
             encoding::put_front(answer, &answered);
             0
         }
@@ -26,7 +28,7 @@ fn settle(replayed: Replayed, answer: &mut [u8]) -> u32
 pub extern "C" fn pit_replay(trace: &[u8], out: &mut [u8], answer: &mut [u8]) -> u32
     ensures { λ r. ⌜ replayCalled r (now (out .exit)) (now (answer .exit)) ≡ replayCall (replayInto (now (trace .entry)) (now (out .entry))) (now (out .entry)) (now (answer .entry)) ⌝ }
 {
-    if answer.len() < 16 {
+    if answer.len() < BOARD_ANSWER_SIZE {
         return SHORT_ANSWER;
     }
     let replayed = runner::replay_into(trace, out);
@@ -37,7 +39,7 @@ pub extern "C" fn pit_replay(trace: &[u8], out: &mut [u8], answer: &mut [u8]) ->
 pub extern "C" fn pit_answers(trace: &[u8], out: &mut [u8], answer: &mut [u8]) -> u32
     ensures { λ r. ⌜ replayCalled r (now (out .exit)) (now (answer .exit)) ≡ replayCall (answersInto (now (trace .entry)) (now (out .entry))) (now (out .entry)) (now (answer .entry)) ⌝ }
 {
-    if answer.len() < 16 {
+    if answer.len() < BOARD_ANSWER_SIZE {
         return SHORT_ANSWER;
     }
     let answered = runner::answers_into(trace, out);

@@ -12,7 +12,7 @@ use Rattle.ports.specs.Port.{portOf}
 
 -- the byte, and the record that the read leaves, at its place
 abbrev pub readInto : Board → ℕ → ByteRead → Outcome
-readInto b n r = accept (byte (r .byte)) (withChannel b n (r .channel))
+readInto b n r = accept (byte (record { byte = r .byte })) (withChannel b n (r .channel))
 
 -- "Reads come from the output latch": the channel's own read (latch/specs/Reading.antt)
 abbrev pub dataRead : Board → ℕ → Outcome
@@ -21,7 +21,7 @@ dataRead b n = readInto b n (readByte (channelAt b n))
 -- "The command port reads 0."
 abbrev pub readFrom : Board → Port → Outcome
 readFrom b (Data n) = dataRead b n
-readFrom b Command = accept (byte 0) b
+readFrom b Command = accept (byte (record { byte = 0 })) b
 readFrom b Unknown = refuse 1 b []
 
 -- Refusal 1: "port not 0x40 to 0x43"

@@ -16,7 +16,7 @@ use Rattle.tick.specs.Due.{reloadsFrom}
 use Rattle.tick.specs.Taken.{squareTakes}
 use Rattle.tick.specs.Level.{strobes, countLevel}
 use Rattle.tick.specs.Tick.{endsHalf}
-use Rattle.quiet.specs.Quiet.{countsToZero, quietFor}
+use Rattle.quiet.specs.Inner.{countsToZero, quietFor}
 use Rattle.quiet.proofs.Rounds.{below-step, not-yet, nearer, even-after-two}
 
 -- `takes`, of what it reads

@@ -2,7 +2,7 @@
 use mathlib.Core.Path.{_≡_}
 use Rattle.channel.specs.declared.Channel.{Channel}
 use Rattle.quiet.specs.declared.Moved.{Moved}
-use Rattle.quiet.specs.Skipped.{withSkipped}
+use Rattle.quiet.specs.Inner.{withSkipped}
 
 pub moved-apart : (c : Channel) (m n : Moved) → withSkipped c m ≡ withSkipped c n → m ≡ n
 moved-apart c m n e =

@@ -17,12 +17,13 @@ use Rattle.channel.specs.Shared.{followed}
 use Rattle.channel.proofs.Modes.{every-mode}
 use Rattle.channel.proofs.Pick.{pick-holds}
 use Rattle.count.specs.Step.{stepIn}
-use Rattle.count.specs.Count.{followedBy, tickedBy, count}
+use Rattle.count.specs.Count.{count}
+use Rattle.count.specs.Inner.{followedBy, tickedBy}
 use Rattle.count.proofs.Many.{counted-at-once}
 use Rattle.tick.specs.Taken.{squareTakes, takes}
 use Rattle.tick.specs.Tick.{older, agedBy}
 use Rattle.quiet.specs.declared.Moved.{Moved}
-use Rattle.quiet.specs.Skipped.{standing, withSkipped}
+use Rattle.quiet.specs.Inner.{standing, withSkipped}
 
 square-few : (even high : Bool) → (1 ≤ cond even 2 (cond high 1 3)) × (cond even 2 (cond high 1 3) ≤ 3)
 square-few true high = (omega arith, omega arith)

@@ -16,7 +16,7 @@ use Rattle.tick.specs.declared.due.Kind.the-variants.{Idle, Deferred, Load, Rel
 use Rattle.tick.specs.Due.{due}
 use Rattle.tick.specs.Taken.{takes}
 use Rattle.tick.specs.Tick.{agedBy, tick}
-use Rattle.quiet.specs.Quiet.{quiet, skipBy, skip}
+use Rattle.quiet.specs.Inner.{quiet, skipBy, skip}
 use Rattle.quiet.proofs.Ages.{aged-none}
 use Rattle.quiet.proofs.Quietly.{Next, quiet-as, next-idle, next-load}
 use Rattle.quiet.proofs.QuietCount.{next-count}

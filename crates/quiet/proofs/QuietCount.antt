@@ -20,7 +20,7 @@ use Rattle.tick.specs.Due.{runs, reloadsFrom, dueIn, due}
 use Rattle.tick.specs.Taken.{takes}
 use Rattle.tick.specs.Level.{strobes, countLevel}
 use Rattle.tick.specs.Tick.{agedBy, withArmed, endsHalf, countingOn, marked, afterCounts, tick}
-use Rattle.quiet.specs.Quiet.{toZero, quiet, skip}
+use Rattle.quiet.specs.Inner.{toZero, quiet, skip}
 use Rattle.quiet.proofs.Alike.{quietAt, Alike, alike}
 use Rattle.quiet.proofs.Ages.{aged-more, counts-aged}
 use Rattle.quiet.proofs.Quietly.{Next, skip-as, quiet-as, tick-as, due-aged}

@@ -11,7 +11,7 @@ use Rattle.channel.specs.declared.ChannelState.{ChannelState}
 use Rattle.channel.specs.declared.ChannelState.the-variants.{WaitingForReload, WaitingForGate, DeferLoadCycle, WaitingForLoadCycle, WaitingForLoadTrigger, Counting}
 use Rattle.channel.specs.declared.PitType.{PitType}
 use Rattle.channel.specs.declared.ReloadFlag.the-variants.{Normal, ReloadNextCycle}
-use Rattle.channel.specs.Shared.{changeChannelState, changeOutputState}
+use Rattle.channel.specs.Shared.{waitsForCycle, changeChannelState, changeOutputState}
 use Rattle.channel.proofs.Modes.{every-mode}
 use Rattle.channel.proofs.Pick.{pick-same}
 use Rattle.tick.specs.declared.due.Kind.{Kind}
@@ -19,7 +19,7 @@ use Rattle.tick.specs.declared.due.Kind.the-variants.{Idle, Load}
 use Rattle.tick.specs.Due.{dueIn, due}
 use Rattle.tick.specs.Level.{restLevel, restsAt}
 use Rattle.tick.specs.Tick.{agedBy, idle, neverLoaded, sentBack, loadAt, tickBy, tick}
-use Rattle.quiet.specs.Quiet.{waitsForCycle, metAlready, quietIf, quietBy, quiet, skipBy, skip}
+use Rattle.quiet.specs.Inner.{metAlready, quietIf, quietBy, quiet, skipBy, skip}
 use Rattle.quiet.proofs.Ages.{aged-more}
 use Rattle.tick.proofs.Loaded.{both-first, both-second}
 

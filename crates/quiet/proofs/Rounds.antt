@@ -10,7 +10,7 @@ use Rattle.numbers.specs.Digits.{ones, tens, hundreds, weight}
 use Rattle.channel.proofs.Pick.{pick-knowing}
 use Rattle.count.specs.Step.{decimalTake, decimalStep, stepIn}
 use Rattle.count.proofs.Weight.{weight-step, step-below}
-use Rattle.quiet.specs.Quiet.{countsToZero}
+use Rattle.quiet.specs.Inner.{countsToZero}
 
 pub below-step : (bcd : Bool) (e : ℕ) → e < 65536 → stepIn bcd e < 65536
 below-step true e h = step-below e h

@@ -1,2 +1,1 @@
-pub mod Quiet
-pub mod Skipped
+pub mod Inner

@@ -1,26 +1,26 @@
 // How many next ticks are all alike, and what that many come to at once: docs/TICK.md, "Many ticks at once".
 use channel::Channel;
 use channel::ChannelMode;
-use channel::ChannelState;
 use count::followed_by;
 use count::steps_in;
 use count::ticked_by;
+use numbers::radix_counts;
+use numbers::weight;
 use tick::due::Kind;
 use tick::due::due;
 use tick::never_loaded;
 use tick::older;
+use tick::pulses;
 use tick::takes;
 ghost use Prim.Native.Nat.{_-_, _*_, _≤_};
 ghost use mathlib.Core.Path.{_≡_};
-ghost use Rattle.numbers.specs.Digits.{weight};
 ghost use Rattle.numbers.specs.Times.{times};
 ghost use Rattle.count.specs.Count.{count};
 ghost use Rattle.count.specs.Step.{stepIn};
 ghost use Rattle.tick.specs.Taken.{takes};
 ghost use Rattle.tick.specs.Level.{restsAt};
 ghost use Rattle.tick.specs.Tick.{agedBy};
-ghost use Rattle.quiet.specs.Quiet.{round, toZero, waitsForCycle, metAlready, untilHigh, untilLow, untilHalf, untilStrobe, quietFor, quietCounting, quietIf, quiet, skip};
-ghost use Rattle.quiet.specs.Skipped.{standing, withSkipped};
+ghost use Rattle.quiet.specs.Inner.{toZero, metAlready, untilHigh, untilLow, untilHalf, untilStrobe, quietFor, quietCounting, quietIf, quiet, skip, standing, withSkipped};
 
 fn wide(number: u16) -> u32
     ensures { λ r. ⌜ r ≡ number ⌝ }
@@ -38,26 +38,6 @@ fn less(number: u32, by: u32) -> u32
     number - by
 }
 
-// The counts of a whole round.
-fn round(bcd: bool) -> u32
-    ensures { λ r. ⌜ r ≡ round bcd ⌝ }
-{
-    if bcd {
-        return 10000;
-    }
-    65536
-}
-
-fn weight(element: u16) -> u16
-    ensures { λ r. ⌜ r ≡ weight element ⌝ }
-{
-    let thousands = element / 16 / 16 / 16 % 16;
-    let hundreds = element / 16 / 16 % 16;
-    let tens = element / 16 % 16;
-    let ones = element % 16;
-    1000 * thousands + 100 * hundreds + 10 * tens + ones
-}
-
 fn to_zero(c: Channel) -> u32
     ensures { λ r. ⌜ r ≡ toZero c ⌝ }
 {
@@ -65,7 +45,7 @@ fn to_zero(c: Channel) -> u32
     let k = c.counter;
     let element = k.counting_element;
     if element == 0 {
-        return round(w.bcd_mode);
+        return radix_counts(w.bcd_mode);
     }
     if w.bcd_mode {
         return wide(weight(element));
@@ -76,27 +56,10 @@ fn to_zero(c: Channel) -> u32
 fn rests_at(mode: ChannelMode, level: bool) -> bool
     ensures { λ r. ⌜ r ≡ restsAt mode level ⌝ }
 {
-    match mode {
-        ChannelMode::InterruptOnTerminalCount => true,
-        ChannelMode::HardwareRetriggerableOneShot => true,
-        ChannelMode::RateGenerator => level,
-        ChannelMode::SquareWaveGenerator => true,
-        ChannelMode::SoftwareTriggeredStrobe => level,
-        ChannelMode::HardwareTriggeredStrobe => level,
+    if pulses(mode) {
+        return level;
     }
-}
-
-fn waits_for_cycle(state: ChannelState) -> bool
-    ensures { λ r. ⌜ r ≡ waitsForCycle state ⌝ }
-{
-    match state {
-        ChannelState::WaitingForReload => false,
-        ChannelState::WaitingForGate => false,
-        ChannelState::DeferLoadCycle => false,
-        ChannelState::WaitingForLoadCycle => true,
-        ChannelState::WaitingForLoadTrigger => false,
-        ChannelState::Counting(_) => false,
-    }
+    true
 }
 
 // A count of 1 that was met before: the next tick leaves the record as it is.
@@ -107,7 +70,7 @@ fn met_already(c: Channel) -> bool
     let k = c.counter;
     let state = k.channel_state;
     if never_loaded(c) {
-        if waits_for_cycle(state) {
+        if state.waits_for_cycle() {
             if p.output {
                 return k.cycles_in_state == 0;
             }

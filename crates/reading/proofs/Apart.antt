@@ -2,43 +2,23 @@
 use mathlib.Core.Bool.{cond}
 use Prim.Native.Nat.{ℕ}
 use mathlib.Core.Path.{_≡_, refl, ap, ap₂}
-use lib.Dec.{eqb}
+use lib.Dec.{ltb}
 use Rattle.refusal.specs.Reply.{Reply, refused, accepted}
-use Rattle.refusal.specs.declared.Refusal.{Refusal}
-use Rattle.refusal.specs.declared.Refusal.the-variants.{PortUnknown, ChannelAbove2, DivisorZero, TicksBelowWarp, RemainderTooLarge, TooManyCounts, PlacePastEnd, NoRoom, TraceEnds, SettingsCount, TooManyOperations, UnknownCode, BytesAfter, RuleBroken, TooManyTicks, TicksOwed}
 use Rattle.refusal.proofs.Apart.{apart-by}
-use Rattle.refusal.proofs.Numbered.{refusalNumbered}
+use Rattle.refusal.proofs.Numbered.{refusalNumbered, below-101, numbered-back}
 use Rattle.board.specs.declared.Board.{Board}
 use Rattle.reading.specs.declared.CountAnswer.{CountAnswer}
 use Rattle.reading.specs.declared.CountAnswer.the-variants.{Refused, NotReadable, Count}
 use Rattle.reading.specs.declared.CountAnswered.{CountAnswered}
 use Rattle.reading.specs.ReadCount.{CountOutcome, countReply, countOutcome}
 
--- 201 is no number of document 01's table
+-- 201 is no number of a refusal's
 abbrev answerOf : Reply ℕ → CountAnswer
-answerOf (refused number) = cond (eqb number 201) NotReadable (Refused (refusalNumbered number))
+answerOf (refused number) = cond (ltb 100 number) NotReadable (Refused (refusalNumbered number))
 answerOf (accepted e) = Count e
 
-refused-back : (r : Refusal) → answerOf (countReply (Refused r)) ≡ Refused r
-refused-back PortUnknown = refl
-refused-back ChannelAbove2 = refl
-refused-back DivisorZero = refl
-refused-back TicksBelowWarp = refl
-refused-back RemainderTooLarge = refl
-refused-back TooManyCounts = refl
-refused-back PlacePastEnd = refl
-refused-back NoRoom = refl
-refused-back TraceEnds = refl
-refused-back SettingsCount = refl
-refused-back TooManyOperations = refl
-refused-back UnknownCode = refl
-refused-back BytesAfter = refl
-refused-back RuleBroken = refl
-refused-back TooManyTicks = refl
-refused-back TicksOwed = refl
-
 answer-back : (a : CountAnswer) → answerOf (countReply a) ≡ a
-answer-back (Refused refusal) = refused-back refusal
+answer-back (Refused refusal) = simp (below-101 refusal, numbered-back refusal)
 answer-back NotReadable = refl
 answer-back (Count e) = refl
 

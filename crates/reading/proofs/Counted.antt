@@ -50,7 +50,7 @@ pub record Counted (unloaded : Type 0) (k : ℕ) (c d : Channel) : Type 0 where
   pub undisturbed : Undisturbed c d
   pub stepped : unloaded → d .counter .«counting_element» ≡ times k (stepIn (c .control .«bcd_mode»)) (c .counter .«counting_element»)
 
-pub counted-none : (c : Channel) → Counted Unit 0 c c
+pub counted-none : {A : Type 0} (c : Channel) → Counted A 0 c c
 counted-none c =
     record {
       undisturbed = record { same-control = refl; same-half = refl; same-latched = refl; still-held = λ held. refl };
@@ -58,7 +58,7 @@ counted-none c =
     }
 
 -- what keeps the count and the latch makes no count
-pub counted-kept : {c d : Channel} → Kept c d → Counted Unit 0 c d
+pub counted-kept : {A : Type 0} {c d : Channel} → Kept c d → Counted A 0 c d
 counted-kept p =
     record {
       undisturbed = record {
@@ -84,7 +84,7 @@ counted-then j k {c} {d} {e} p q =
           (sym (times-add k j (stepIn (c .control .«bcd_mode»)) (c .counter .«counting_element»)));
     }
 
-pub counted-counts : (k : ℕ) (c : Channel) → Counted Unit k c (times k count c)
+pub counted-counts : {A : Type 0} (k : ℕ) (c : Channel) → Counted A k c (times k count c)
 counted-counts k c =
     record {
       undisturbed = record {

@@ -52,24 +52,25 @@ by-same i n P same other = go (eqb n i) refl
     go false e = other (λ is. eqb-false n i e (sym is))
 
 module _ (b : Board) (three : length (b .channels) ≡ 3) (i : ℕ) (on : i < 3) where
+  -- of a call that makes no tick
   abbrev After : ℕ → Outcome → Type 0
-  After k outcome = Counted Unit k (channelAt b i) (channelAt (outcome .board) i)
+  After k outcome = Counted (Unloaded i b 0) k (channelAt b i) (channelAt (outcome .board) i)
 
-  put-counted : (k : ℕ) (c : Channel) → Counted Unit k (channelAt b i) c → Counted Unit k (channelAt b i) (channelAt (withChannel b i c) i)
-  put-counted k c p = subst (λ (d : Channel). Counted Unit k (channelAt b i) d) (sym (put-found b three i on c)) p
+  put-counted : (k : ℕ) (c : Channel) → Counted (Unloaded i b 0) k (channelAt b i) c → Counted (Unloaded i b 0) k (channelAt b i) (channelAt (withChannel b i c) i)
+  put-counted k c p = subst (λ (d : Channel). Counted (Unloaded i b 0) k (channelAt b i) d) (sym (put-found b three i on c)) p
 
   stays-counted : (outcome : Outcome) → channelAt (outcome .board) i ≡ channelAt b i → After 0 outcome
-  stays-counted outcome stays = subst (λ (d : Channel). Counted Unit 0 (channelAt b i) d) (sym stays) (counted-none (channelAt b i))
+  stays-counted outcome stays = subst (λ (d : Channel). Counted (Unloaded i b 0) 0 (channelAt b i) d) (sym stays) (counted-none (channelAt b i))
 
   leaves : (o : Operation) → (Touches o i → ⊥) → After 0 (step b o)
   leaves o other = stays-counted (step b o) (untouched-stays b i o other)
 
   -- a call that is refused while ticks are owed
-  settled : (c : Channel) (events : List ℕ) (place : ℕ) → Counted Unit 0 (channelAt b i) c → After 0 (unlessOwed b events (settle b i c events place))
+  settled : (c : Channel) (events : List ℕ) (place : ℕ) → Counted (Unloaded i b 0) 0 (channelAt b i) c → After 0 (unlessOwed b events (settle b i c events place))
   settled c events place p =
       by-owed (After 0) b events (settle b i c events place) (λ owes. counted-none (channelAt b i))
       (λ none.
-      settle-holds b events place i c (λ (d : Board). Counted Unit 0 (channelAt b i) (channelAt d i)) (counted-none (channelAt b i)) (put-counted 0 c p))
+      settle-holds b events place i c (λ (d : Board). Counted (Unloaded i b 0) 0 (channelAt b i) (channelAt d i)) (counted-none (channelAt b i)) (put-counted 0 c p))
 
   on-channel : (events : List ℕ) (outcome : Outcome) → After 0 outcome → After 0 (onChannel b i events outcome)
   on-channel events outcome p = by-channel (After 0) b i events outcome (counted-none (channelAt b i)) (λ on. p)

@@ -119,10 +119,10 @@ module _ {b : Board} {i : ℕ} {bcd : Bool} {v : ℕ} (reading : Reading b i bcd
   spells = (
     ap (λ (d : Board). step d (readOf i) .reply) at-first
         ∙ read-reply b3 i on
-        ∙ ap (λ (x : ℕ). accepted (byte x)) (first-byte (channelAt b3 i) _ holds3),
+        ∙ ap (λ (x : ℕ). accepted (byte (record { byte = x }))) (first-byte (channelAt b3 i) _ holds3),
     ap (λ (d : Board). step d (readOf i) .reply) at-second
         ∙ read-reply b5 i on
-        ∙ ap (λ (x : ℕ). accepted (byte x)) (second-byte (channelAt b5 i) _ holds5),
+        ∙ ap (λ (x : ℕ). accepted (byte (record { byte = x }))) (second-byte (channelAt b5 i) _ holds5),
   )
 
   three5 : length (b5 .channels) ≡ 3

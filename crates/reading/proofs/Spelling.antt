@@ -6,13 +6,14 @@ use native.Mathlib.Omega.{arith}
 use Rattle.numbers.specs.Modulo.{minusMod}
 use Rattle.numbers.specs.Digits.{GoodDigits, weight, packed}
 use Rattle.numbers.specs.Times.{times}
+use Rattle.numbers.specs.Radix.{radixCounts}
 use Rattle.numbers.proofs.Modulo.{below, again, apart}
 use Rattle.numbers.proofs.Digits.{weight-packed, packed-below, good-packed}
 use Rattle.count.specs.Step.{stepIn}
 use Rattle.count.proofs.Repeated.{binary-times, decimal-times}
 use Rattle.refusal.specs.Reply.{Reply, refused, accepted}
 use Rattle.board.specs.Outcome.{Value, done, newPlace, byte, ticks, outputState, channelCount, retriggers, dirtyMarks, timerAccum, worked}
-use Rattle.reading.specs.Spelling.{modulus, remaining, Spells}
+use Rattle.reading.specs.Spelling.{remaining, Spells}
 
 pub steps-left : (bcd : Bool) (n v : ℕ) → v < 65536 → (bcd ≡ true → GoodDigits v) → times n (stepIn bcd) v ≡ remaining bcd v n
 steps-left false n v h good = binary-times n v h
@@ -33,7 +34,7 @@ left-again true v n k =
     rw (weight-packed (minusMod 10000 (weight v) n) (below 10000 (weight v) n (omega arith)))
     (ap packed (again 10000 (weight v) n k (omega arith)))
 
-pub left-apart : (bcd : Bool) (v n k : ℕ) → n < modulus bcd → k < modulus bcd → remaining bcd v n ≡ remaining bcd v k → n ≡ k
+pub left-apart : (bcd : Bool) (v n k : ℕ) → n < radixCounts bcd → k < radixCounts bcd → remaining bcd v n ≡ remaining bcd v k → n ≡ k
 left-apart false v n k hn hk e = apart 65536 v n k hn hk e
 left-apart true v n k hn hk e =
     apart 10000 (weight v) n k hn hk
@@ -44,7 +45,7 @@ left-apart true v n k hn hk e =
 abbrev byteIn : Value → ℕ
 byteIn done = 0
 byteIn (newPlace p) = 0
-byteIn (byte x) = x
+byteIn (byte r) = r .byte
 byteIn (ticks n) = 0
 byteIn (outputState level) = 0
 byteIn (channelCount register element counting) = 0

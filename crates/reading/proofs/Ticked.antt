@@ -44,7 +44,7 @@ module _ (b : Board) (i : ℕ) (on : i < 3) where
   one-tick k = rw (next-tick k) (counted-tick (b .model) (now k))
 
   pub ticks-counted : (k : ℕ) → Counted (Unloaded i b k) (takenIn i b k) (channelAt b i) (now k)
-  ticks-counted zero = counted-when (λ unloaded. tt) (counted-none (channelAt b i))
+  ticks-counted zero = counted-none (channelAt b i)
   ticks-counted (suc k) =
       counted-when (λ unloaded. ((λ j h. unloaded j (omega arith)), unloaded k (omega arith)))
       (counted-then (takenIn i b k) (taken (now k)) (ticks-counted k) (one-tick k))

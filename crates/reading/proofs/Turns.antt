@@ -28,7 +28,7 @@ unfolding readPort
 read-turn b i on = ap (readFrom b) (data-port i on)
 
 -- the byte is the record's own
-pub read-reply : (b : Board) (i : ℕ) → i < 3 → step b (readOf i) .reply ≡ accepted (byte (readByte (channelAt b i) .byte))
+pub read-reply : (b : Board) (i : ℕ) → i < 3 → step b (readOf i) .reply ≡ accepted (byte (record { byte = readByte (channelAt b i) .byte }))
 read-reply b i on = ap (λ (o : Outcome). o .reply) (read-turn b i on)
 
 -- refusal 16 is not given to an accepted call

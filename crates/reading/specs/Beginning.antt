@@ -6,23 +6,13 @@ use mathlib.Core.Path.{_≡_}
 use lib.ListN.{length}
 use Rattle.numbers.specs.Digits.{GoodDigits}
 use Rattle.channel.specs.declared.Channel.{Channel}
-use Rattle.channel.specs.declared.RwMode.{RwMode}
-use Rattle.channel.specs.declared.RwMode.the-variants.{Lsb, Msb, LsbMsb}
-use Rattle.channel.specs.declared.ReadState.{ReadState}
-use Rattle.channel.specs.declared.ReadState.the-variants.{NoRead, ReadLsb}
+use Rattle.latch.specs.Reading.{startsWord}
 use Rattle.board.specs.declared.Board.{Board}
 use Rattle.board.specs.Board.{channelAt}
 
--- "read low byte then high", "no word half read": the next read gives a word's low byte
-abbrev pub startsWord : RwMode → ReadState → Bool
-startsWord Lsb s = false
-startsWord Msb s = false
-startsWord LsbMsb NoRead = true
-startsWord LsbMsb ReadLsb = false
-
--- "A channel read low byte then high, not latched, no word half read"
+-- "A channel read low byte then high, not latched, no word half read": the next read starts a word
 abbrev pub mayBegin : Channel → Bool
-mayBegin c = cond (c .latch .«count_is_latched») false (startsWord (c .control .«rw_mode») (c .latch .«read_state»))
+mayBegin c = cond (c .latch .«count_is_latched») false (startsWord (c .latch .«read_state») (c .control .«rw_mode»))
 
 -- channel i of board b, in BCD or not, at counting element v
 pub record Begins (b : Board) (i : ℕ) (bcd : Bool) (v : ℕ) : Type 0 where

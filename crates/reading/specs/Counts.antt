@@ -8,7 +8,7 @@ use Rattle.tick.specs.Taken.{taken}
 use Rattle.board.specs.declared.Board.{Board}
 use Rattle.board.specs.Board.{channelAt}
 use Rattle.owed.specs.BoardTick.{boardTick}
-use Rattle.step.specs.Operation.{Operation, WritePort, ReadPort, SetChannelGate, Counts, LoadCycle, CatchUp, Run, Reset, GetOutputState, GetChannelCount, DoesChannelRetrigger, IsDirty, GetTimerAccum, WorkOff}
+use Rattle.step.specs.Operation.{Operation, WritePort, ReadPort, SetChannelGate, Counts, LoadCycle, CatchUp, Run, Reset, GetOutputState, GetChannelCount, DoesChannelRetrigger, IsDirty, GetTimerAccum, WorkOff, kindOf}
 use Rattle.step.specs.Step.{step}
 use Rattle.step.specs.Owed.{madeBy}
 
@@ -17,22 +17,30 @@ abbrev pub takenIn : ℕ → Board → ℕ → ℕ
 takenIn i b zero = 0
 takenIn i b (suc k) = takenIn i b k + taken (channelAt (times k boardTick b) i)
 
--- the counts that an operation makes on channel i
+-- the counts that an operation makes by hand on channel i
+abbrev pub handIn : ℕ → Operation → ℕ
+handIn i (WritePort port byte events place) = 0
+handIn i (ReadPort port) = 0
+handIn i (SetChannelGate channel level events place) = 0
+handIn i (Counts channel number) = cond (eqb channel i) number 0
+handIn i (LoadCycle channel) = 0
+handIn i (CatchUp given) = 0
+handIn i (Run given) = 0
+handIn i Reset = 0
+handIn i (GetOutputState channel) = 0
+handIn i (GetChannelCount channel) = 0
+handIn i (DoesChannelRetrigger channel) = 0
+handIn i (IsDirty channel) = 0
+handIn i GetTimerAccum = 0
+handIn i (WorkOff stated events place) = 0
+
+-- the ticks that an operation makes
+abbrev pub ticksMade : Board → Operation → ℕ
+ticksMade b o = cond (kindOf o .works) (madeBy (step b o .reply)) 0
+
+-- the counts that an operation makes on channel i: by its ticks, or by hand
 abbrev pub countsIn : ℕ → Board → Operation → ℕ
-countsIn i b (WritePort port byte events place) = 0
-countsIn i b (ReadPort port) = 0
-countsIn i b (SetChannelGate channel level events place) = 0
-countsIn i b (Counts channel number) = cond (eqb channel i) number 0
-countsIn i b (LoadCycle channel) = 0
-countsIn i b (CatchUp given) = 0
-countsIn i b (Run given) = 0
-countsIn i b Reset = 0
-countsIn i b (GetOutputState channel) = 0
-countsIn i b (GetChannelCount channel) = 0
-countsIn i b (DoesChannelRetrigger channel) = 0
-countsIn i b (IsDirty channel) = 0
-countsIn i b GetTimerAccum = 0
-countsIn i b (WorkOff stated events place) = takenIn i b (madeBy (step b (WorkOff stated events place) .reply))
+countsIn i b o = cond (kindOf o .works) (takenIn i b (ticksMade b o)) (handIn i o)
 
 -- the sum over a list, from a board on
 abbrev pub countsOn : ℕ → Board → List Operation → ℕ

@@ -15,8 +15,8 @@ use Rattle.ports.specs.Port.{portOf}
 use Rattle.owed.specs.BoardTick.{boardTick}
 use Rattle.step.specs.Operation.{Operation, WritePort, ReadPort, SetChannelGate, Counts, LoadCycle, CatchUp, Run, Reset, GetOutputState, GetChannelCount, DoesChannelRetrigger, IsDirty, GetTimerAccum, WorkOff}
 use Rattle.step.specs.Step.{step}
-use Rattle.step.specs.Owed.{madeBy}
 use Rattle.step.specs.Touched.{CommandTouches, ReadTouches}
+use Rattle.reading.specs.Counts.{ticksMade}
 
 -- a data byte to any channel; a control byte that neither latches channel i nor sets its mode. (An unknown port is refused, so no accepted call is one.)
 abbrev pub MayWrite : ℕ → Port → ℕ → Type 0
@@ -51,20 +51,7 @@ Unloaded i b ticks = (k : ℕ) → k < ticks → loads (b .model) (channelAt (ti
 
 -- .. none that an operation makes. (A load cycle made by hand may not pass at all.)
 abbrev pub NoLoad : ℕ → Board → Operation → Type 0
-NoLoad i b (WritePort port byte events place) = Unit
-NoLoad i b (ReadPort port) = Unit
-NoLoad i b (SetChannelGate channel level events place) = Unit
-NoLoad i b (Counts channel number) = Unit
-NoLoad i b (LoadCycle channel) = Unit
-NoLoad i b (CatchUp given) = Unit
-NoLoad i b (Run given) = Unit
-NoLoad i b Reset = Unit
-NoLoad i b (GetOutputState channel) = Unit
-NoLoad i b (GetChannelCount channel) = Unit
-NoLoad i b (DoesChannelRetrigger channel) = Unit
-NoLoad i b (IsDirty channel) = Unit
-NoLoad i b GetTimerAccum = Unit
-NoLoad i b (WorkOff stated events place) = Unloaded i b (madeBy (step b (WorkOff stated events place) .reply))
+NoLoad i b o = Unloaded i b (ticksMade b o)
 
 -- .. none of a list's, from a board on
 abbrev pub NoLoads : ℕ → Board → List Operation → Type 0

@@ -4,6 +4,7 @@ use mathlib.Core.Bool.{Bool, true}
 use mathlib.Core.List.{List}
 use mathlib.Core.Path.{_≡_}
 use lib.ListN.{length}
+use Rattle.numbers.specs.Radix.{radixCounts}
 use Rattle.refusal.specs.Reply.{accepted}
 use Rattle.board.specs.declared.Board.{Board}
 use Rattle.board.specs.Board.{channelAt}
@@ -14,7 +15,7 @@ use Rattle.reading.specs.Beginning.{mayBegin, Begins}
 use Rattle.reading.specs.Passing.{AllMayPass, NoLoads}
 use Rattle.reading.specs.Counts.{countsOn}
 use Rattle.reading.specs.Reading.{threeCalls, Reading, countsMade, NoLaterLoads, countsInAll, atEnd, firstReply, secondReply}
-use Rattle.reading.specs.Spelling.{modulus, remaining, Spells}
+use Rattle.reading.specs.Spelling.{remaining, Spells}
 use Rattle.reading.specs.ReadCount.{readCount}
 
 -- "The bytes spell (v - n) mod 65,536, or in BCD, v read as decimal, the digits of (v - n) mod 10,000."
@@ -27,8 +28,8 @@ ReadsTheCount =
 abbrev pub NeverAlike : Type 0
 NeverAlike =
     (bcd : Bool) (v : ℕ) (b : Board) (i : ℕ) (reading : Reading b i bcd v) (c : Board) (j : ℕ) (other : Reading c j bcd v)
-    → countsMade reading < modulus bcd
-    → countsMade other < modulus bcd
+    → countsMade reading < radixCounts bcd
+    → countsMade other < radixCounts bcd
     → (countsMade reading ≡ countsMade other → ⊥)
     → firstReply reading ≡ firstReply other
     → secondReply reading ≡ secondReply other

@@ -4,19 +4,15 @@ use mathlib.Core.Bool.{Bool, true, false}
 use mathlib.Core.Path.{_≡_}
 use Rattle.numbers.specs.Modulo.{minusMod}
 use Rattle.numbers.specs.Digits.{weight, packed}
+use Rattle.numbers.specs.Radix.{radixCounts}
 use Rattle.refusal.specs.Reply.{Reply, accepted}
 use Rattle.board.specs.Outcome.{Value, byte}
 
--- how many different counts a radix has: true is BCD
-abbrev pub modulus : Bool → ℕ
-modulus false = 65536
-modulus true = 10000
-
 -- the count that is left of v after n counts
 abbrev pub remaining : Bool → ℕ → ℕ → ℕ
-remaining false v n = minusMod (modulus false) v n
-remaining true v n = packed (minusMod (modulus true) (weight v) n)
+remaining false v n = minusMod (radixCounts false) v n
+remaining true v n = packed (minusMod (radixCounts true) (weight v) n)
 
 -- two reads that were accepted and spell a word, its low byte first
 abbrev pub Spells : ℕ → Reply Value → Reply Value → Type 0
-Spells word first second = (first ≡ accepted (byte (word % 256))) × (second ≡ accepted (byte (word / 256)))
+Spells word first second = (first ≡ accepted (byte (record { byte = word % 256 }))) × (second ≡ accepted (byte (record { byte = word / 256 })))

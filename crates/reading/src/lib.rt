@@ -2,12 +2,10 @@
 // between them, stands in specs/Promise.antt.
 use board::Board;
 use channel::Channel;
-use channel::ReadState;
-use channel::RwMode;
 use refusal::Refusal;
 ghost use mathlib.Core.Path.{_≡_};
 ghost use Rattle.refusal.specs.Reply.{numberIn};
-ghost use Rattle.reading.specs.Beginning.{startsWord, mayBegin};
+ghost use Rattle.reading.specs.Beginning.{mayBegin};
 ghost use Rattle.reading.specs.Word.{readWord};
 ghost use Rattle.reading.specs.ReadCount.{countReply, countOutcome, readCount};
 
@@ -57,19 +55,6 @@ fn read_word(c: Channel) -> WordRead
     }
 }
 
-fn starts_word(rw_mode: RwMode, read_state: ReadState) -> bool
-    ensures { λ r. ⌜ r ≡ startsWord «rw_mode» «read_state» ⌝ }
-{
-    match rw_mode {
-        RwMode::Lsb => false,
-        RwMode::Msb => false,
-        RwMode::LsbMsb => match read_state {
-            ReadState::NoRead => true,
-            ReadState::ReadLsb => false,
-        },
-    }
-}
-
 // A held count is left to whoever latched it.
 fn may_begin(c: Channel) -> bool
     ensures { λ r. ⌜ r ≡ mayBegin c ⌝ }
@@ -81,7 +66,7 @@ fn may_begin(c: Channel) -> bool
     let w = c.control;
     let rw_mode = w.rw_mode;
     let read_state = l.read_state;
-    starts_word(rw_mode, read_state)
+    latch::starts_word(read_state, rw_mode)
 }
 
 // Refusals 2, 16 and 201. A count from before ticks that are owed would be a stale one.

@@ -80,10 +80,10 @@ fn tick(b: Board) -> Board {
 }
 
 fn byte_of(answer: Answer) -> u8 {
-    let Answer::Byte(byte) = answer else {
+    let Answer::Byte(read) = answer else {
         return 0;
     };
-    byte
+    read.byte
 }
 
 fn read(b: Board) -> Got {

@@ -1,7 +1,9 @@
--- Each refusal has a number of its own. Assumes nothing.
+-- Each refusal has a number of its own, from 1 to 100. Assumes nothing.
 use Prim.Native.Nat.{ℕ}
 use mathlib.Core.List.{[], _∷_}
 use mathlib.Core.Path.{_≡_, refl}
+use mathlib.Core.Bool.{false}
+use lib.Dec.{eqb, ltb}
 use lib.ListN.{getD}
 use Rattle.refusal.specs.declared.Refusal.{Refusal}
 use Rattle.refusal.specs.declared.Refusal.the-variants.{PortUnknown, ChannelAbove2, DivisorZero, TicksBelowWarp, RemainderTooLarge, TooManyCounts, PlacePastEnd, NoRoom, TraceEnds, SettingsCount, TooManyOperations, UnknownCode, BytesAfter, RuleBroken, TooManyTicks, TicksOwed}
@@ -16,23 +18,34 @@ refusalNumbered number =
     number
     RuleBroken
 
+-- the one law that goes through the table: a number is not 0, which says that nothing is refused; it lies below the numbers of the byte forms, which begin at 101;
+-- and its refusal is found again from it
+in-table : (r : Refusal) → (eqb (refusalNumber r) 0 ≡ false) × (ltb 100 (refusalNumber r) ≡ false) × (refusalNumbered (refusalNumber r) ≡ r)
+in-table PortUnknown = (refl, refl, refl)
+in-table ChannelAbove2 = (refl, refl, refl)
+in-table DivisorZero = (refl, refl, refl)
+in-table TicksBelowWarp = (refl, refl, refl)
+in-table RemainderTooLarge = (refl, refl, refl)
+in-table TooManyCounts = (refl, refl, refl)
+in-table PlacePastEnd = (refl, refl, refl)
+in-table NoRoom = (refl, refl, refl)
+in-table TraceEnds = (refl, refl, refl)
+in-table SettingsCount = (refl, refl, refl)
+in-table TooManyOperations = (refl, refl, refl)
+in-table UnknownCode = (refl, refl, refl)
+in-table BytesAfter = (refl, refl, refl)
+in-table RuleBroken = (refl, refl, refl)
+in-table TooManyTicks = (refl, refl, refl)
+in-table TicksOwed = (refl, refl, refl)
+
+pub number-set : (r : Refusal) → eqb (refusalNumber r) 0 ≡ false
+number-set r = in-table r .0
+
+pub below-101 : (r : Refusal) → ltb 100 (refusalNumber r) ≡ false
+below-101 r = in-table r .1
+
 pub numbered-back : (r : Refusal) → refusalNumbered (refusalNumber r) ≡ r
-numbered-back PortUnknown = refl
-numbered-back ChannelAbove2 = refl
-numbered-back DivisorZero = refl
-numbered-back TicksBelowWarp = refl
-numbered-back RemainderTooLarge = refl
-numbered-back TooManyCounts = refl
-numbered-back PlacePastEnd = refl
-numbered-back NoRoom = refl
-numbered-back TraceEnds = refl
-numbered-back SettingsCount = refl
-numbered-back TooManyOperations = refl
-numbered-back UnknownCode = refl
-numbered-back BytesAfter = refl
-numbered-back RuleBroken = refl
-numbered-back TooManyTicks = refl
-numbered-back TicksOwed = refl
+numbered-back r = in-table r .2
 
 pub numbers-apart : (r s : Refusal) → refusalNumber r ≡ refusalNumber s → r ≡ s
 numbers-apart = apart-by refusalNumber refusalNumbered numbered-back

@@ -7,7 +7,7 @@ fn main() {
     // More than the longest trace has: no byte past that counts, and an input without end is answered too.
     let mut input = io::large_buffer();
     let length = io::read_full(STDIN_FILENO, &mut input);
-    let mut output = [0u8; 262272];
+    let mut output = [0u8; runner::TEXT_ROOM];
     let printed = runner::replay(&input[..length], &mut output);
     io::write_all(STDOUT_FILENO, &output[..printed]);
 }

@@ -6,13 +6,13 @@ use lib.ListN.{length}
 use borrow.Author.Tests.{lt-ltb, le-ltb}
 use Rattle.line.specs.Line.{lineRoom}
 use Rattle.trace.specs.declared.head.Head.{Head}
-use Rattle.trace.specs.Judgement.{refusedAt}
-use Rattle.trace.specs.Trace.{operationsFrom, readTrace}
-use Rattle.trace.specs.Answer.{operationsOf}
+use Rattle.trace.specs.Judgement.{Faulted, refusedBy}
+use Rattle.trace.specs.Trace.{readTrace}
 use Rattle.trace.proofs.Sound.{SoundAs}
 use Rattle.runner.specs.declared.lending.Replayed.the-variants.{Written, Short}
 use Rattle.runner.specs.Printed.{printed, Prints}
 use Rattle.runner.specs.Lent.{inRoom, roomFor, replayInto, replayed}
+use Rattle.runner.specs.Inner.{toTell}
 use Rattle.runner.proofs.Turns.{as-many-as}
 
 pub no-room : (room : ℕ) (text bytes : List ℕ) → length bytes < room → replayed Short bytes ≡ inRoom room text bytes
@@ -23,10 +23,10 @@ pub in-room : (room : ℕ) (text bytes : List ℕ) (n : ℕ) (after : List ℕ) 
 in-room room text bytes n after h p = simp (le-ltb (length bytes) room h, p .0, p .1)
 
 -- the room that a trace asks for
-pub room-refused : (trace : List ℕ) (number place : ℕ) → readTrace trace ≡ refusedAt number place → roomFor (readTrace trace) ≡ lineRoom
-room-refused trace number place is = ap roomFor is
+pub room-refused : (trace : List ℕ) (f : Faulted) → readTrace trace ≡ refusedBy f → roomFor (readTrace trace) ≡ lineRoom
+room-refused trace f is = ap roomFor is
 
-pub operations-are : (trace : List ℕ) (h : Head) → SoundAs trace h → length (operationsOf (operationsFrom trace 0 (h .operations))) ≡ h .operations
+pub operations-are : (trace : List ℕ) (h : Head) → SoundAs trace h → length (toTell trace 0 (h .operations)) ≡ h .operations
 operations-are trace h whole = as-many-as trace 0 (h .operations) (whole .all-sound)
 
 pub room-sound : (trace : List ℕ) (h : Head) → SoundAs trace h → roomFor (readTrace trace) ≡ lineRoom * (h .operations + 2)

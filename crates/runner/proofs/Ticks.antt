@@ -6,11 +6,11 @@ use native.Mathlib.Omega.{arith}
 use lib.ListN.{length, set}
 use Rattle.refusal.specs.Reply.{Reply, accepted}
 use Rattle.channel.specs.declared.Channel.{Channel}
-use Rattle.quiet.specs.Quiet.{skip}
+use Rattle.quiet.specs.Inner.{skip}
 use Rattle.board.specs.declared.Board.{Board}
 use Rattle.board.specs.Board.{channelAt, owing}
 use Rattle.board.specs.Answer.{replyOf}
-use Rattle.board.specs.Outcome.{Value, Outcome, worked}
+use Rattle.board.specs.Outcome.{Value, worked}
 use Rattle.owed.specs.declared.Ticked.{Ticked}
 use Rattle.owed.specs.Ticked.{Has, tickedOn}
 use Rattle.owed.specs.Inner.{QuietRun}

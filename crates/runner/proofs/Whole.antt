@@ -1,5 +1,5 @@
 -- What is printed of a whole trace: the lines behind one another stand at the front of the lent bytes. Assumes nothing.
-use Prim.Native.Nat.{ℕ, _≤_}
+use Prim.Native.Nat.{ℕ, _+_, _≤_}
 use mathlib.Core.List.{List}
 use mathlib.Core.Path.{_≡_, sym, ap, _∙_}
 use native.Mathlib.Nat.{zero-add}
@@ -16,6 +16,7 @@ use Rattle.line.specs.Line.{lineOf}
 use Rattle.line.proofs.Back.{line-back}
 use Rattle.text.specs.Put.{put, answered}
 use Rattle.text.proofs.Puts.{Wrote, put-fits}
+use Rattle.trace.specs.Sizes.{longestTrace}
 use Rattle.trace.proofs.Enough.{first-bytes-decide}
 use Rattle.runner.specs.Printed.{printedJudgement, printed, Prints}
 
@@ -41,6 +42,6 @@ prints-counts text before number after p =
     (long, sym (length-take-le number after long))
 
 -- no byte past the first 24,593 counts, so what the program reads at most is enough
-pub first-bytes-print : (bytes : List ℕ) (n : ℕ) → 24593 ≤ n → printed (take n bytes) ≡ printed bytes
+pub first-bytes-print : (bytes : List ℕ) (n : ℕ) → longestTrace + 1 ≤ n → printed (take n bytes) ≡ printed bytes
 unfolding printed
 first-bytes-print bytes n h = ap printedJudgement (first-bytes-decide bytes n h)

@@ -1,5 +1,5 @@
 -- docs/ENCODING.md, "The answers of a trace: 16 bytes an operation".
-use Prim.Native.Nat.{ℕ}
+use Prim.Native.Nat.{ℕ, _+_}
 use mathlib.Core.Bool.{cond}
 use mathlib.Core.List.{List, _∷_, _++_}
 use lib.Dec.{ltb}
@@ -9,18 +9,22 @@ use Rattle.refusal.specs.Reply.{Reply, refused, accepted}
 use Rattle.board.specs.Outcome.{Value, done, newPlace, byte, ticks, outputState, channelCount, retriggers, dirtyMarks, timerAccum, worked}
 use Rattle.runner.specs.declared.answering.Said.{Said}
 
+-- "16 bytes an operation": the table's lines
+abbrev pub traceAnswerSize : ℕ
+traceAnswerSize = 1 + 1 + 6 + 4 + 4
+
 -- "the refusal's number, or 0", "how many event bytes were written", "the byte read, the timer ticks yielded, or the ticks made"
 abbrev pub saying : ℕ → ℕ → ℕ → Said
 saying refusal written value = record { refusal = refusal; written = written; value = value }
 
 -- events are lent "at place 0", so as many bytes were written as the new place says; no more than six are lent
-abbrev pub written : ℕ → ℕ
-written place = cond (ltb 6 place) 6 place
+abbrev pub bytesWritten : ℕ → ℕ
+bytesWritten place = cond (ltb 6 place) 6 place
 
 -- "0 where none of them is answered"
 abbrev pub saidBy : Value → Said
-saidBy (newPlace place) = saying 0 (written place) 0
-saidBy (byte x) = saying 0 0 x
+saidBy (newPlace place) = saying 0 (bytesWritten place) 0
+saidBy (byte r) = saying 0 0 (r .byte)
 saidBy (ticks number) = saying 0 0 number
 saidBy done = saying 0 0 0
 saidBy (outputState level) = saying 0 0 0
@@ -28,7 +32,7 @@ saidBy (channelCount register element counting) = saying 0 0 0
 saidBy (retriggers answer) = saying 0 0 0
 saidBy (dirtyMarks dirty counting ticked) = saying 0 0 0
 saidBy (timerAccum number) = saying 0 0 0
-saidBy (worked made place) = saying 0 (written place) made
+saidBy (worked made place) = saying 0 (bytesWritten place) made
 
 abbrev pub saidIn : Reply Value → Said
 saidIn (refused number) = saying number 0 0
@@ -40,5 +44,5 @@ saidBytes s events left =
     s .refusal ∷ s .written ∷ getD events 0 0 ∷ getD events 1 0 ∷ getD events 2 0 ∷ getD events 3 0 ∷ getD events 4 0 ∷ getD events 5 0
     ∷ fourBytes (s .value) ++ fourBytes left
 
-unfoldable pub answerBytes : Reply Value → List ℕ → ℕ → List ℕ
-answerBytes reply events left = saidBytes (saidIn reply) events left
+unfoldable pub traceAnswerBytes : Reply Value → List ℕ → ℕ → List ℕ
+traceAnswerBytes reply events left = saidBytes (saidIn reply) events left

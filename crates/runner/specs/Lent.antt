@@ -6,7 +6,7 @@ use lib.Dec.{ltb}
 use lib.ListN.{length, drop}
 use Rattle.refusal.specs.Reply.{Reply, refused, accepted}
 use Rattle.refusal.specs.Refusal.{refusalNumber}
-use Rattle.trace.specs.Judgement.{Judgement, refusedAt, sound}
+use Rattle.trace.specs.Judgement.{Judgement, refusedBy, sound}
 use Rattle.trace.specs.Trace.{Trace, readTrace}
 use Rattle.board.specs.Making.{fresh}
 use Rattle.line.specs.Line.{lineRoom}
@@ -28,7 +28,7 @@ inRoom room text bytes =
 
 -- "64 for the head, for each operation and for the end, or 64 in all for a trace that is refused"
 abbrev pub roomFor : Judgement Trace → ℕ
-roomFor (refusedAt number place) = lineRoom
+roomFor (refusedBy f) = lineRoom
 roomFor (sound t) = lineRoom * (length (t .operations) + 2)
 
 -- "writes what the replay program would print to the front of `out`"
@@ -41,7 +41,7 @@ answersOf t = toldFrom Answers (fresh (t .model) (t .divisor)) 0 (t .operations)
 
 -- "3 and 9 to 14 of the trace, 105"; "16 for each operation"
 abbrev pub answersJudged : Judgement Trace → List ℕ → Replaying
-answersJudged (refusedAt number place) bytes = record { reply = refused number; bytes = bytes }
+answersJudged (refusedBy f) bytes = record { reply = refused (f .number); bytes = bytes }
 answersJudged (sound t) bytes = inRoom (roomOf Answers * length (t .operations)) (answersOf t) bytes
 
 unfoldable pub answersInto : List ℕ → List ℕ → Replaying

@@ -1,3 +1,4 @@
 pub mod Answers
 pub mod Printed
 pub mod Lent
+pub mod Inner

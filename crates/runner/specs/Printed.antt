@@ -6,7 +6,7 @@ use mathlib.Core.Path.{_≡_}
 use lib.ListN.{length, drop}
 use Rattle.refusal.specs.Reply.{Reply}
 use Rattle.trace.specs.declared.operation.Operation.{Operation}
-use Rattle.trace.specs.Judgement.{Judgement, refusedAt, sound}
+use Rattle.trace.specs.Judgement.{Judgement, refusedBy, sound}
 use Rattle.trace.specs.Trace.{Trace, readTrace}
 use Rattle.board.specs.declared.Board.{Board}
 use Rattle.board.specs.Outcome.{Value, Outcome}
@@ -16,17 +16,17 @@ use Rattle.line.specs.Lines.{headLine, operationLine, endLine, faultLine}
 use Rattle.recorded.specs.Made.{make}
 use Rattle.runner.specs.declared.Form.{Form}
 use Rattle.runner.specs.declared.Form.the-variants.{Lines, Answers}
-use Rattle.runner.specs.Answers.{answerBytes}
+use Rattle.runner.specs.Answers.{traceAnswerSize, traceAnswerBytes}
 
 -- "one line for each operation (its index, then ...)"; or its answer, which has no index
 abbrev pub said : Form → ℕ → Reply Value → List ℕ → ℕ → List ℕ
 said Lines index reply events left = operationLine index reply events left
-said Answers index reply events left = answerBytes reply events left
+said Answers index reply events left = traceAnswerBytes reply events left
 
--- no line is longer than 64 bytes, and an answer has 16
+-- no line is longer, and every answer has so many bytes
 abbrev pub roomOf : Form → ℕ
 roomOf Lines = lineRoom
-roomOf Answers = 16
+roomOf Answers = traceAnswerSize
 
 -- what is said of an operation's outcome; what is `left` is the remainder after the operation
 abbrev pub saidOf : Form → ℕ → Outcome → List ℕ
@@ -44,7 +44,7 @@ printedTrace t =
 
 -- "a fault prints only `trace refused N at P`"
 abbrev pub printedJudgement : Judgement Trace → List ℕ
-printedJudgement (refusedAt number place) = faultLine number place
+printedJudgement (refusedBy f) = faultLine f
 printedJudgement (sound t) = printedTrace t
 
 -- "The replay program reads one trace from standard input"

@@ -1,9 +1,12 @@
-// An operation's answer in 16 bytes: docs/ENCODING.md, "The answers of a trace".
+// An operation's answer in bytes: docs/ENCODING.md, "The answers of a trace".
 use board::Answer;
 use time::SystemTicks;
 ghost use mathlib.Core.Path.{_≡_};
 ghost use Rattle.board.specs.Answer.{replyOf};
-ghost use Rattle.runner.specs.Answers.{written, saidIn, answerBytes};
+ghost use Rattle.runner.specs.Answers.{bytesWritten, saidIn, traceAnswerBytes};
+
+// The refusal's number, how many event bytes were written, six event bytes, and two numbers.
+pub(crate) const TRACE_ANSWER_SIZE: usize = 1 + 1 + 6 + 4 + 4;
 
 // The refusal's number, how many event bytes were written, and the byte, the ticks yielded or the ticks made; each 0 where there is none.
 pub struct Said {
@@ -23,8 +26,8 @@ fn saying(written: u8, value: u32) -> Said
 }
 
 // The events were lent at place 0, so as many bytes were written as the new place says. No more than six are lent.
-fn written(at: usize) -> u8
-    ensures { λ r. ⌜ r ≡ written at ⌝ }
+fn bytes_written(at: usize) -> u8
+    ensures { λ r. ⌜ r ≡ bytesWritten at ⌝ }
 {
     if 6 < at {
         return 6;
@@ -41,12 +44,12 @@ fn said_in(answer: Answer) -> Said
             written: 0,
             value: 0,
         },
-        Answer::Place(at) => saying(written(at), 0),
-        Answer::Byte(byte) => saying(0, byte as u32),
+        Answer::Place(at) => saying(bytes_written(at), 0),
+        Answer::Byte(read) => saying(0, read.byte as u32),
         Answer::Ticks(number) => saying(0, number.0),
         Answer::Worked(worked) => {
             let made = worked.made;
-            saying(written(worked.place), made.0)
+            saying(bytes_written(worked.place), made.0)
         }
         Answer::Done => saying(0, 0),
         Answer::OutputState(_) => saying(0, 0),
@@ -56,12 +59,16 @@ fn said_in(answer: Answer) -> Said
     }
 }
 
-pub(crate) fn answer_bytes(answer: Answer, events: [u8; 6], left: SystemTicks) -> [u8; 16]
-    ensures { λ r. ⌜ r ≡ answerBytes (replyOf answer) events (left .0) ⌝ }
+pub(crate) fn trace_answer_bytes(
+    answer: Answer,
+    events: [u8; 6],
+    left: SystemTicks,
+) -> [u8; TRACE_ANSWER_SIZE]
+    ensures { λ r. ⌜ r ≡ traceAnswerBytes (replyOf answer) events (left .0) ⌝ }
 {
     let said = said_in(answer);
-    let value = encoding::four_bytes(said.value);
-    let rest = encoding::four_bytes(left.0);
+    let value = numbers::four_bytes(said.value);
+    let rest = numbers::four_bytes(left.0);
     [
         said.refusal,
         said.written,

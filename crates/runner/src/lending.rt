@@ -1,9 +1,11 @@
 // A replay into lent bytes of any length.
 use crate::Form;
+use crate::answering::TRACE_ANSWER_SIZE;
 use crate::put_line;
 use crate::replay_sound;
 use crate::tell;
 use board::Board;
+use line::LINE_ROOM;
 use line::sentence::Sentence;
 use refusal::Refusal;
 use trace::head::Judged;
@@ -18,7 +20,7 @@ pub enum Replayed {
     Short,
 }
 
-// What is printed, where the lent bytes have room for every line that the trace can have: 64 bytes for the head, for each operation and for the end, or 64
+// What is printed, where the lent bytes have room for every line that the trace can have: one for the head, for each operation and for the end, or one
 // where the trace is refused.
 pub fn replay_into(trace: &[u8], out: &mut [u8]) -> Replayed
     ensures { λ r. ⌜ replayed r (now (out .exit)) ≡ replayInto (now (trace .entry)) (now (out .entry)) ⌝ }
@@ -26,15 +28,14 @@ pub fn replay_into(trace: &[u8], out: &mut [u8]) -> Replayed
     let judged = trace::judge(trace);
     match judged {
         Judged::Refused(fault) => {
-            if out.len() < 64 {
+            if out.len() < LINE_ROOM {
                 return Replayed::Short;
             }
-            let refusal = fault.refusal;
-            let line = line::line_of(Sentence::Fault(refusal, fault.place));
+            let line = line::line_of(Sentence::Fault(fault));
             Replayed::Written(put_line(out, 0, line))
         }
         Judged::Sound(head) => {
-            if out.len() < 64 * (head.operations as usize + 2) {
+            if out.len() < LINE_ROOM * (head.operations as usize + 2) {
                 return Replayed::Short;
             }
             Replayed::Written(replay_sound(trace, head, out))
@@ -42,7 +43,7 @@ pub fn replay_into(trace: &[u8], out: &mut [u8]) -> Replayed
     }
 }
 
-// The answers of the operations, 16 bytes each, where the lent bytes have room for them.
+// The answers of the operations, where the lent bytes have room for them.
 pub fn answers_into(trace: &[u8], out: &mut [u8]) -> Replayed
     ensures { λ r. ⌜ replayed r (now (out .exit)) ≡ answersInto (now (trace .entry)) (now (out .entry)) ⌝ }
 {
@@ -54,7 +55,7 @@ pub fn answers_into(trace: &[u8], out: &mut [u8]) -> Replayed
         }
         Judged::Sound(head) => {
             let number = head.operations;
-            if out.len() < 16 * (number as usize) {
+            if out.len() < TRACE_ANSWER_SIZE * (number as usize) {
                 return Replayed::Short;
             }
             let model = head.model;

@@ -7,13 +7,16 @@ pub mod lending;
 
 use board::Answer;
 use board::Board;
+use board::PortRead;
 use board::Worked;
 pub use lending::answers_into;
 pub use lending::replay_into;
+use line::LINE_ROOM;
 use line::Line;
 use line::sentence::Sentence;
 use time::SystemTicks;
 use time::TimerTicks;
+use trace::MOST_OPERATIONS;
 use trace::head::Head;
 use trace::head::Judged;
 use turn::finding::Turn;
@@ -28,11 +31,18 @@ ghost use Rattle.line.specs.Line.{lineRoom};
 ghost use Rattle.text.specs.Put.{put, answered};
 ghost use Rattle.trace.specs.Judgement.{sound};
 ghost use Rattle.trace.specs.Trace.{operationsFrom, traceOf};
-ghost use Rattle.trace.specs.Answer.{soundness, operationsOf};
+ghost use Rattle.trace.specs.Operation.{operationIn};
+ghost use Rattle.trace.specs.Inner.{soundness};
+ghost use Rattle.turn.specs.Inner.{Finds};
+ghost use Rattle.recorded.specs.Finding.{turnOf};
 ghost use Rattle.runner.specs.Printed.{said, roomOf, toldFrom, printedTrace, printed, Prints};
+ghost use Rattle.runner.specs.Inner.{toTell, Puts};
 ghost use Rattle.io.specs.Counts.{Counts};
 
-// What is said of each operation: its line, or its answer in 16 bytes.
+// Room for what is printed of every trace: a line for the head, for each operation and for the end.
+pub const TEXT_ROOM: usize = LINE_ROOM * (MOST_OPERATIONS as usize + 2);
+
+// What is said of each operation: its line, or its answer in bytes.
 pub enum Form {
     Lines,
     Answers,
@@ -57,7 +67,7 @@ fn say(
     events: [u8; 6],
     left: SystemTicks,
 ) -> usize
-    ensures { λ r. ⌜ (answered r (now (out .exit)) ≡ put (said form index (replyOf answer) events (left .0)) (now (out .entry)) place) × (length (said form index (replyOf answer) events (left .0)) ≤ roomOf form) ⌝ }
+    ensures { λ r. ⌜ Puts (said form index (replyOf answer) events (left .0)) (roomOf form) (now (out .entry)) place r (now (out .exit)) ⌝ }
 {
     match form {
         Form::Lines => {
@@ -75,7 +85,7 @@ fn say(
             put_line(out, place, line)
         }
         Form::Answers => {
-            let bytes = answering::answer_bytes(answer, events, left);
+            let bytes = answering::trace_answer_bytes(answer, events, left);
             text::put(out, place, &bytes)
         }
     }
@@ -87,6 +97,13 @@ fn all_made(run: u32) -> Answer
 {
     let made = TimerTicks(run);
     Answer::Worked(Worked { made, place: 0 })
+}
+
+// The turn of the operation at an index, on a board that owes ticks or owes none.
+fn turn_at(trace: &[u8], index: u32, owing: bool) -> Turn
+    ensures { λ r. ⌜ Finds (turnOf owing (operationIn (now (trace .entry)) index)) r ⌝ }
+{
+    recorded::turn_of(trace::operation_in(trace, index), owing)
 }
 
 // What is said of the operations from the first index on, as many as are asked for. A replay from the start begins at 0; one from a later board will not.
@@ -102,17 +119,16 @@ fn tell(
     requires { ⌜ soundness (operationsFrom (now trace) first number) ≡ sound tt ⌝ }
     requires { ⌜ first + number ≤ 4096 ⌝ }
     requires { ⌜ place + roomOf form * number ≤ length (now out) ⌝ }
-    ensures { λ r. ⌜ (answered r (now (out .exit)) ≡ put (toldFrom form start first (operationsOf (operationsFrom (now (trace .entry)) first number))) (now (out .entry)) place) × (length (toldFrom form start first (operationsOf (operationsFrom (now (trace .entry)) first number))) ≤ roomOf form * number) ⌝ }
+    ensures { λ r. ⌜ Puts (toldFrom form start first (toTell (now (trace .entry)) first number)) (roomOf form * number) (now (out .entry)) place r (now (out .exit)) ⌝ }
 {
     let mut b = start;
     let mut at = place;
     let mut j: u32 = 0;
     while j < number {
         let index = first + j;
-        let operation = trace::operation_in(trace, index);
         j += 1;
         let owing = b.owed;
-        let turn = recorded::turn_of(operation, owing.0 != 0);
+        let turn = turn_at(trace, index, owing.0 != 0);
         let none = [0u8; 6];
         match turn {
             Turn::OnChannel(n, work) => {
@@ -162,7 +178,7 @@ fn tell(
                         let next = got.channel;
                         b.channels[i] = next;
                         let left = b.remainder;
-                        at = say(form, out, at, index, Answer::Byte(got.byte), none, left);
+                        at = say(form, out, at, index, Answer::Byte(PortRead { byte: got.byte }), none, left);
                     }
                     Work::Counts(number) => {
                         let c = b.channels[i];
@@ -281,7 +297,7 @@ fn replay_sound(trace: &[u8], head: Head, out: &mut [u8]) -> usize
     requires { ⌜ soundness (operationsFrom (now trace) 0 (head .operations)) ≡ sound tt ⌝ }
     requires { ⌜ head .operations ≤ 4096 ⌝ }
     requires { ⌜ lineRoom * (head .operations + 2) ≤ length (now out) ⌝ }
-    ensures { λ r. ⌜ Prints (printedTrace (traceOf head (operationsOf (operationsFrom (now (trace .entry)) 0 (head .operations))))) (now (out .entry)) r (now (out .exit)) ⌝ }
+    ensures { λ r. ⌜ Prints (printedTrace (traceOf head (toTell (now (trace .entry)) 0 (head .operations)))) (now (out .entry)) r (now (out .exit)) ⌝ }
 {
     let model = head.model;
     let number = head.operations;
@@ -294,17 +310,15 @@ fn replay_sound(trace: &[u8], head: Head, out: &mut [u8]) -> usize
     put_line(out, place, last)
 }
 
-// How many bytes are printed. They stand at the front; the rest stays as it was. There is room for every trace: 64 bytes for the head, for each of 4,096
-// operations and for the end.
-pub fn replay(trace: &[u8], out: &mut [u8; 262272]) -> usize
+// How many bytes are printed. They stand at the front; the rest stays as it was.
+pub fn replay(trace: &[u8], out: &mut [u8; TEXT_ROOM]) -> usize
     ensures { λ r. ⌜ Prints (printed (now (trace .entry))) (now (out .entry)) r (now (out .exit)) ⌝ }
     ensures { λ r. ⌜ Counts r (now (out .exit)) ⌝ }
 {
     let judged = trace::judge(trace);
     match judged {
         Judged::Refused(fault) => {
-            let refusal = fault.refusal;
-            let line = line::line_of(Sentence::Fault(refusal, fault.place));
+            let line = line::line_of(Sentence::Fault(fault));
             put_line(out, 0, line)
         }
         Judged::Sound(head) => replay_sound(trace, head, out),

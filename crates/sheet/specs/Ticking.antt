@@ -7,16 +7,12 @@ use lib.Dec.{eqb, ltb}
 use lib.ListN.{getD}
 use Rattle.numbers.specs.Modulo.{minusMod}
 use Rattle.numbers.specs.Digits.{packed}
+use Rattle.numbers.specs.Radix.{radixCounts}
 
 -- the two chips, which part in mode 3 only
 pub data Chip : Type 0 where
   chip8253 : Chip
   chip8254 : Chip
-
--- N1, N2: how many values a radix has; true is BCD
-abbrev pub values : Bool → ℕ
-values false = 65536
-values true = 10000
 
 -- N1, N2: a value as the counter holds it. The largest count stands as 0
 abbrev pub held : Bool → ℕ → ℕ
@@ -25,7 +21,7 @@ held true v = packed (v % 10000)
 
 -- M0, M1, M4, M5: every tick takes one, and the counter goes round
 abbrev pub downValue : Bool → ℕ → ℕ → ℕ
-downValue bcd n j = minusMod (values bcd) n j
+downValue bcd n j = minusMod (radixCounts bcd) n j
 
 -- M2: "Period N": from N down to 1, and again
 abbrev pub rateValue : ℕ → ℕ → ℕ

@@ -26,7 +26,7 @@ use Rattle.event.proofs.Written.{event-written}
 use Rattle.board.specs.declared.Board.{Board}
 use Rattle.board.specs.Board.{channelAt, withChannel}
 use Rattle.board.proofs.Channels.{put-found, put-other}
-use Rattle.board.specs.Outcome.{Outcome, Value, done, newPlace, byte, ticks, outputState, channelCount, retriggers, dirtyMarks, timerAccum, worked, refuse, unlessOwed}
+use Rattle.board.specs.Outcome.{Outcome, Value, done, newPlace, refuse, unlessOwed}
 use Rattle.ports.specs.declared.port.Port.{Port}
 use Rattle.ports.specs.declared.port.Port.the-variants.{Data, Command as CommandPort, Unknown}
 use Rattle.ports.specs.Port.{portOf}
@@ -39,20 +39,9 @@ use Rattle.step.specs.Step.{step}
 use Rattle.step.specs.Levels.{levelAt}
 use Rattle.gate.specs.Gate.{setGate}
 use Rattle.refusal.proofs.Apart.{refused-not}
+use Rattle.step.specs.Time.{amountsIn}
 use Rattle.step.specs.Events.{NoEvent, OneEvent, Told, ToldBy}
 use Rattle.step.proofs.Owing.{by-owed}
-
-abbrev pub placeIn : Value → ℕ
-placeIn done = 0
-placeIn (newPlace p) = p
-placeIn (byte x) = 0
-placeIn (ticks n) = 0
-placeIn (outputState level) = 0
-placeIn (channelCount register element counting) = 0
-placeIn (retriggers answer) = 0
-placeIn (dirtyMarks dirty counting ticked) = 0
-placeIn (timerAccum left) = 0
-placeIn (worked made p) = p
 
 abbrev valueIn : Reply Value → Value
 valueIn (refused number) = done
@@ -69,13 +58,13 @@ placed : (events : List ℕ) (place new : ℕ) (event : Event) → callReply (pl
 placed events place new Unchanged =
     by-unchanged events place (λ (p : Placing). callReply (p .reply) ≡ accepted (newPlace new) → PlacedAs Unchanged events place new p)
     (λ past e. absurd (refused-not 7 (newPlace new) e))
-    (λ inside e. (sym (ap (λ (r : Reply Value). placeIn (valueIn r)) e), refl, λ b c. refl))
+    (λ inside e. (sym (ap (λ (r : Reply Value). amountsIn (valueIn r) .place) e), refl, λ b c. refl))
 placed events place new (Level n level) =
     by-level events place (λ (p : Placing). callReply (p .reply) ≡ accepted (newPlace new) → PlacedAs (Level n level) events place new p)
     (λ past e. absurd (refused-not 7 (newPlace new) e))
     n level
     (λ inside few e. absurd (refused-not 8 (newPlace new) e))
-    (λ room e. (sym (ap (λ (r : Reply Value). placeIn (valueIn r)) e), event-written n level events place room, λ b c. refl))
+    (λ room e. (sym (ap (λ (r : Reply Value). amountsIn (valueIn r) .place) e), event-written n level events place room, λ b c. refl))
 
 -- a channel put at a place of the board: its level there, and the levels elsewhere
 module _ (b : Board) (three : length (b .channels) ≡ 3) (n : ℕ) (on : n < 3) (c : Channel) where

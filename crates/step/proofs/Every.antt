@@ -1,7 +1,8 @@
 -- What holds of every refusal and of every accepted outcome that changes only channels and keeps their number and the lent bytes' length holds of every
 -- step that leaves the owed ticks; what holds of ticks worked off too, of every step but the time calls; and with these of every step. Assumes nothing.
 use Prim.Native.Nat.{ℕ, _+_, _-_, _≤_}
-use mathlib.Core.Path.{_≡_, refl, _∙_}
+use mathlib.Core.Logic.{_⊎_, inl, inr, ⊎-elim}
+use mathlib.Core.Path.{_≡_, refl, sym, ap, _∙_}
 use mathlib.Core.Bool.{Bool, true, false, true≢false}
 use mathlib.Core.List.{List, []}
 use lib.Dec.{ltb}
@@ -36,16 +37,25 @@ use Rattle.ports.specs.Gates.{setChannelGate}
 use Rattle.ports.specs.Reads.{readFrom, readPort}
 use Rattle.ports.specs.Writes.{controlRegisterWrite, writeTo, writePort}
 use Rattle.owed.specs.Worked.{Work, report, workOff}
-use Rattle.step.specs.Operation.{Operation, WritePort, ReadPort, SetChannelGate, Counts, LoadCycle, CatchUp, Run, Reset, GetOutputState, GetChannelCount, DoesChannelRetrigger, IsDirty, GetTimerAccum, WorkOff, lent}
+use Rattle.step.specs.Operation.{Operation, WritePort, ReadPort, SetChannelGate, Counts, LoadCycle, CatchUp, Run, Reset, GetOutputState, GetChannelCount, DoesChannelRetrigger, IsDirty, GetTimerAccum, WorkOff, kindOf, lent}
 use Rattle.step.specs.Step.{step}
-use Rattle.step.specs.Time.{ticksIn, ifAccepted, taken, isTimeCall}
+use Rattle.step.specs.Time.{ticksIn, ifAccepted, systemTaken, isTimeCall}
 use Rattle.step.specs.Owed.{madeIn, changesOwed}
 use Rattle.step.proofs.Owing.{by-owed, by-timely}
-use Rattle.step.proofs.Working.{Underway, worked-on}
+use Rattle.step.proofs.Working.{Underway, neither, worked-on}
 
 -- an answer that tells neither of timer ticks yielded nor of ticks made
 abbrev pub Plain : Value → Type 0
 Plain value = (ticksIn value ≡ 0) × (madeIn value ≡ 0)
+
+-- "Catch-up then sets the warp to its ticks ...; run sets the warp to 0"
+abbrev pub Leaves : Operation → ℕ → ℕ → Type 0
+Leaves o given warp = ((o ≡ CatchUp given) × (warp ≡ given)) ⊎ ((o ≡ Run given) × (warp ≡ 0))
+
+leaves-timed : (o : Operation) (given warp : ℕ) → Leaves o given warp → kindOf o .timed ≡ true
+leaves-timed o given warp =
+    let timed : Operation → Bool = λ p. kindOf p .timed in
+    ⊎-elim (λ catches. ap timed (catches .0)) (λ runs. ap timed (runs .0))
 
 -- P speaks of the lent bytes, of the system ticks taken in, and of the outcome
 module _ (b : Board) (P : List ℕ → ℕ → Outcome → Type 0)
@@ -107,76 +117,62 @@ module _ (b : Board) (P : List ℕ → ℕ → Outcome → Type 0)
     unfolding reset restored
     reset-every = owing-every [] _ (accepts [] [] done _ (refl, refl) refl (λ three. refl))
 
+    -- what is asked of the call that works ticks off, and of a time call that leaves this warp
+    abbrev Works : Type 0
+    Works = (events : List ℕ) (w : Work) → Underway b events w → P events 0 (report w)
+
+    abbrev Yields : ℕ → ℕ → Type 0
+    Yields given warp =
+        (defer : Bool) → b .owed .0 ≡ 0 → b .warp .0 ≤ given
+        → P [] (given - b .warp .0) (yielding b warp defer (accepted (converted (summed given (b .warp .0) (b .remainder .0)) (b .divisor))))
+
+    work-every : Works → (stated : ℕ) (events : List ℕ) (place : ℕ) → P events 0 (workOff b stated events place)
+    unfolding workOff
+    work-every works stated events place =
+        pick-knowing (P events 0) (ltb (length events) place) (refuse 7 b events) _ (λ past. refuses events 7)
+        (λ inside.
+        pick-holds (P events 0) (ltb 65536 stated) (refuse 15 b events) _ (refuses events 15)
+        (works events _ (worked-on b events stated place (ltb-false _ _ inside))))
+
+    time-every : (given warp : ℕ) (defer : Bool) → Yields given warp
+        → P [] (ifAccepted (timely b (yielding b warp defer (elapsed b given)) .reply) (given - b .warp .0)) (timely b (yielding b warp defer (elapsed b given)))
+    time-every given warp defer yields =
+        by-timely (λ (o : Outcome). P [] (ifAccepted (o .reply) (given - b .warp .0)) o) b (yielding b warp defer (elapsed b given))
+        (refuses [] 3)
+        (λ owes. refuses [] 16)
+        (λ none.
+        by-time b given
+        (λ (made : Reply Yield). P [] (ifAccepted (yielding b warp defer made .reply) (given - b .warp .0)) (yielding b warp defer made))
+        (λ number. refuses [] number)
+        (λ since. yields defer none since))
+
+    -- every operation: of ticks worked off and of time is asked only where it is such a call
+    pub every-asked : (o : Operation) → (kindOf o .works ≡ true → Works) → ((given warp : ℕ) → Leaves o given warp → Yields given warp) → P (lent o) (systemTaken b o) (step b o)
+    unfolding writePort readPort loadCycle catchUp run getOutputState getChannelCount doesChannelRetrigger isDirty
+    every-asked (WritePort port byte events place) works yields = write-every (portOf port) byte events place
+    every-asked (ReadPort port) works yields = read-every (portOf port)
+    every-asked (SetChannelGate n level events place) works yields = gate-every n level events place
+    every-asked (Counts n number) works yields = counts-every n number
+    every-asked (LoadCycle n) works yields = accepted-on n _ _ (refl, refl) (put-three n _)
+    every-asked (CatchUp given) works yields = time-every given given true (yields given given (inl (refl, refl)))
+    every-asked (Run given) works yields = time-every given 0 (b .defer) (yields given 0 (inr (refl, refl)))
+    every-asked Reset works yields = reset-every
+    every-asked (GetOutputState n) works yields = accepted-on n _ (b .channels) (refl, refl) (λ three. three)
+    every-asked (GetChannelCount n) works yields = accepted-on n _ (b .channels) (refl, refl) (λ three. three)
+    every-asked (DoesChannelRetrigger n) works yields = accepted-on n _ (b .channels) (refl, refl) (λ three. three)
+    every-asked (IsDirty n) works yields = accepted-on n _ _ (refl, refl) (put-three n _)
+    every-asked GetTimerAccum works yields = accepts [] [] _ (b .channels) (refl, refl) refl (λ three. three)
+    every-asked (WorkOff stated events place) works yields = work-every (works refl) stated events place
+
     -- every operation but catch-up, run and the call that works ticks off
-    pub every-plain : (o : Operation) → changesOwed o ≡ false → P (lent o) 0 (step b o)
-    unfolding writePort readPort loadCycle getOutputState getChannelCount doesChannelRetrigger isDirty
-    every-plain (WritePort port byte events place) other = write-every (portOf port) byte events place
-    every-plain (ReadPort port) other = read-every (portOf port)
-    every-plain (SetChannelGate n level events place) other = gate-every n level events place
-    every-plain (Counts n number) other = counts-every n number
-    every-plain (LoadCycle n) other = accepted-on n _ _ (refl, refl) (put-three n _)
-    every-plain (CatchUp given) other = absurd (true≢false other)
-    every-plain (Run given) other = absurd (true≢false other)
-    every-plain Reset other = reset-every
-    every-plain (GetOutputState n) other = accepted-on n _ (b .channels) (refl, refl) (λ three. three)
-    every-plain (GetChannelCount n) other = accepted-on n _ (b .channels) (refl, refl) (λ three. three)
-    every-plain (DoesChannelRetrigger n) other = accepted-on n _ (b .channels) (refl, refl) (λ three. three)
-    every-plain (IsDirty n) other = accepted-on n _ _ (refl, refl) (put-three n _)
-    every-plain GetTimerAccum other = accepts [] [] _ (b .channels) (refl, refl) refl (λ three. three)
-    every-plain (WorkOff stated events place) other = absurd (true≢false other)
+    pub every-plain : (o : Operation) → changesOwed o ≡ false → P (lent o) (systemTaken b o) (step b o)
+    every-plain o other =
+        let both = neither (kindOf o .timed) (kindOf o .works) other in
+        every-asked o (λ is. absurd (true≢false (sym is ∙ both .1))) (λ given warp call. absurd (true≢false (sym (leaves-timed o given warp call) ∙ both .0)))
 
-    module _ (works : (events : List ℕ) (w : Work) → Underway b events w → P events 0 (report w)) where
-      work-every : (stated : ℕ) (events : List ℕ) (place : ℕ) → P events 0 (workOff b stated events place)
-      unfolding workOff
-      work-every stated events place =
-          pick-knowing (P events 0) (ltb (length events) place) (refuse 7 b events) _ (λ past. refuses events 7)
-          (λ inside.
-          pick-holds (P events 0) (ltb 65536 stated) (refuse 15 b events) _ (refuses events 15)
-          (works events _ (worked-on b events stated place (ltb-false _ _ inside))))
+    -- every operation but catch-up and run
+    pub every-other : Works → (o : Operation) → isTimeCall o ≡ false → P (lent o) (systemTaken b o) (step b o)
+    every-other works o other = every-asked o (λ is. works) (λ given warp call. absurd (true≢false (sym (leaves-timed o given warp call) ∙ other)))
 
-      -- every operation but catch-up and run
-      pub every-other : (o : Operation) → isTimeCall o ≡ false → P (lent o) 0 (step b o)
-      every-other (WritePort port byte events place) other = every-plain (WritePort port byte events place) refl
-      every-other (ReadPort port) other = every-plain (ReadPort port) refl
-      every-other (SetChannelGate n level events place) other = every-plain (SetChannelGate n level events place) refl
-      every-other (Counts n number) other = every-plain (Counts n number) refl
-      every-other (LoadCycle n) other = every-plain (LoadCycle n) refl
-      every-other (CatchUp given) other = absurd (true≢false other)
-      every-other (Run given) other = absurd (true≢false other)
-      every-other Reset other = every-plain Reset refl
-      every-other (GetOutputState n) other = every-plain (GetOutputState n) refl
-      every-other (GetChannelCount n) other = every-plain (GetChannelCount n) refl
-      every-other (DoesChannelRetrigger n) other = every-plain (DoesChannelRetrigger n) refl
-      every-other (IsDirty n) other = every-plain (IsDirty n) refl
-      every-other GetTimerAccum other = every-plain GetTimerAccum refl
-      every-other (WorkOff stated events place) other = work-every stated events place
-
-      module _ (yields : (given warp : ℕ) (defer : Bool) → b .owed .0 ≡ 0 → b .warp .0 ≤ given → P [] (given - b .warp .0) (yielding b warp defer (accepted (converted (summed given (b .warp .0) (b .remainder .0)) (b .divisor))))) where
-        time-every : (given warp : ℕ) (defer : Bool)
-            → P [] (ifAccepted (timely b (yielding b warp defer (elapsed b given)) .reply) (given - b .warp .0)) (timely b (yielding b warp defer (elapsed b given)))
-        time-every given warp defer =
-            by-timely (λ (o : Outcome). P [] (ifAccepted (o .reply) (given - b .warp .0)) o) b (yielding b warp defer (elapsed b given))
-            (refuses [] 3)
-            (λ owes. refuses [] 16)
-            (λ none.
-            by-time b given
-            (λ (made : Reply Yield). P [] (ifAccepted (yielding b warp defer made .reply) (given - b .warp .0)) (yielding b warp defer made))
-            (λ number. refuses [] number)
-            (λ since. yields given warp defer none since))
-
-        pub every-step : (o : Operation) → P (lent o) (taken b o) (step b o)
-        unfolding catchUp run
-        every-step (WritePort port byte events place) = every-other (WritePort port byte events place) refl
-        every-step (ReadPort port) = every-other (ReadPort port) refl
-        every-step (SetChannelGate n level events place) = every-other (SetChannelGate n level events place) refl
-        every-step (Counts n number) = every-other (Counts n number) refl
-        every-step (LoadCycle n) = every-other (LoadCycle n) refl
-        every-step (CatchUp given) = time-every given given true
-        every-step (Run given) = time-every given 0 (b .defer)
-        every-step Reset = every-other Reset refl
-        every-step (GetOutputState n) = every-other (GetOutputState n) refl
-        every-step (GetChannelCount n) = every-other (GetChannelCount n) refl
-        every-step (DoesChannelRetrigger n) = every-other (DoesChannelRetrigger n) refl
-        every-step (IsDirty n) = every-other (IsDirty n) refl
-        every-step GetTimerAccum = every-other GetTimerAccum refl
-        every-step (WorkOff stated events place) = every-other (WorkOff stated events place) refl
+    pub every-step : Works → ((given warp : ℕ) → Yields given warp) → (o : Operation) → P (lent o) (systemTaken b o) (step b o)
+    every-step works yields o = every-asked o (λ is. works) (λ given warp call. yields given warp)

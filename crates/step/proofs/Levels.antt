@@ -19,10 +19,10 @@ use Rattle.channel.proofs.Modes.{every-mode}
 use Rattle.channel.proofs.Pick.{of-pick, pick-same}
 use Rattle.latch.specs.Latching.{latchCount}
 use Rattle.load.specs.Finalize.{completeLoad, enterAfter, finalizeLoad}
-use Rattle.load.specs.Write.{putRegister, writeAt, writeByte}
+use Rattle.load.specs.Write.{putRegister, beginsWord, writeAt, writeByte}
 use Rattle.gate.specs.Gate.{highOnFall, edge, setGate}
 use Rattle.mode.specs.Mode.{outputAfter, setMode}
-use Rattle.step.specs.Levels.{lowOfTwo, levelAfterWrite, falls, levelAfterGate}
+use Rattle.step.specs.Levels.{levelAfterWrite, falls, levelAfterGate}
 
 -- a row with one entry throughout
 row-same : (x : Bool) (m : ChannelMode) → byMode x x x x x x m ≡ x
@@ -39,7 +39,7 @@ complete-output c defer = after-output (c .load .«load_type») defer (completeL
 
 write-output : (access : RwMode) (state : LoadState) (c : Channel) (byte : ℕ) (defer : Bool)
     → writeAt access state c byte defer .pins .output
-    ≡ cond (byMode (lowOfTwo access state) false false false false false (c .control .mode)) false (c .pins .output)
+    ≡ cond (byMode (beginsWord access state) false false false false false (c .control .mode)) false (c .pins .output)
 unfolding putRegister changeChannelState changeOutputState
 write-output Lsb state c byte defer = simp (complete-output, row-same)
 write-output Msb state c byte defer = simp (complete-output, row-same)

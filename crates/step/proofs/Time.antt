@@ -9,7 +9,7 @@ use Rattle.board.specs.declared.Board.{Board}
 use Rattle.board.specs.Outcome.{Outcome}
 use Rattle.step.specs.Operation.{Operation}
 use Rattle.step.specs.Step.{step, steps}
-use Rattle.step.specs.Time.{yielded, taken, allYielded, allTaken}
+use Rattle.step.specs.Time.{yielded, systemTaken, allYielded, allTaken}
 use Rattle.step.proofs.Every.{every-step}
 
 -- one operation: the divisor stays, and what it takes in is what it gives out or keeps
@@ -20,7 +20,7 @@ record Balanced (b : Board) (ticks : ℕ) (outcome : Outcome) : Type 0 where
 none-in : (b : Board) → b .divisor * 0 + b .remainder .0 ≡ b .remainder .0 + 0
 none-in b = simp mul-zero (omega arith)
 
-step-balanced : (b : Board) (o : Operation) → Balanced b (taken b o) (step b o)
+step-balanced : (b : Board) (o : Operation) → Balanced b (systemTaken b o) (step b o)
 step-balanced b o =
     every-step b (λ events ticks outcome. Balanced b ticks outcome)
     (λ events number. record { divisor-kept = refl; balance = none-in b })
@@ -44,5 +44,5 @@ time-balances b (o ∷ os) =
     let first = step-balanced b o in
     let later = time-balances (step b o .board) os in
     add-up (b .divisor) (yielded (step b o .reply)) (allYielded (step b o .board) os) (b .remainder .0) (step b o .board .remainder .0)
-    (steps (step b o .board) os .remainder .0) (taken b o) (allTaken (step b o .board) os) (first .balance)
+    (steps (step b o .board) os .remainder .0) (systemTaken b o) (allTaken (step b o .board) os) (first .balance)
     (ap (λ d. d * allYielded (step b o .board) os + steps (step b o .board) os .remainder .0) (sym (first .divisor-kept)) ∙ later)

@@ -23,7 +23,7 @@ pub record Underway (b : Board) (events : List ℕ) (w : Work) : Type 0 where
   pub inside : w .room .place ≤ length events
   pub leaves-three : length (b .channels) ≡ 3 → length (w .board .channels) ≡ 3
 
-neither : (s t : Bool) → s || t ≡ false → (s ≡ false) × (t ≡ false)
+pub neither : (s t : Bool) → s || t ≡ false → (s ≡ false) × (t ≡ false)
 neither true t e = absurd (true≢false e)
 neither false t e = (refl, e)
 

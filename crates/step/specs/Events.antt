@@ -1,7 +1,7 @@
 -- Document 01, "Output events": what the lent bytes and the new place tell of an accepted port write or gate, before and after. What they tell of ticks worked
 -- off is `WorkedOff`, in the crate owed (specs/Told.antt there).
 use Prim.Native.Nat.{ℕ, _+_, _<_}
-use mathlib.Core.Bool.{Bool, true, false}
+use mathlib.Core.Bool.{Bool}
 use mathlib.Core.List.{List}
 use mathlib.Core.Logic.{_⊎_}
 use mathlib.Core.Path.{_≡_}
@@ -9,7 +9,7 @@ use Rattle.event.specs.Written.{Written}
 use Rattle.board.specs.declared.Board.{Board}
 use Rattle.board.specs.Outcome.{Outcome, Value, newPlace}
 use Rattle.step.specs.Levels.{levelAt}
-use Rattle.step.specs.Operation.{Operation, WritePort, ReadPort, SetChannelGate, Counts, LoadCycle, CatchUp, Run, Reset, GetOutputState, GetChannelCount, DoesChannelRetrigger, IsDirty, GetTimerAccum, WorkOff}
+use Rattle.step.specs.Operation.{Operation, kindOf}
 
 -- "the old if no event": every output stands where it stood, and no byte changes
 pub record NoEvent (b : Board) (events : List ℕ) (place : ℕ) (outcome : Outcome) (new : ℕ) : Type 0 where
@@ -36,17 +36,4 @@ ToldBy b events place outcome value = (new : ℕ) × (value ≡ newPlace new) ×
 
 -- which operations may move an output: a port write, a gate and ticks worked off, which tell of it, and a reset, which raises no event
 abbrev pub mayMove : Operation → Bool
-mayMove (WritePort port x events place) = true
-mayMove (ReadPort port) = false
-mayMove (SetChannelGate n level events place) = true
-mayMove (Counts n number) = false
-mayMove (LoadCycle n) = false
-mayMove (CatchUp given) = false
-mayMove (Run given) = false
-mayMove Reset = true
-mayMove (GetOutputState n) = false
-mayMove (GetChannelCount n) = false
-mayMove (DoesChannelRetrigger n) = false
-mayMove (IsDirty n) = false
-mayMove GetTimerAccum = false
-mayMove (WorkOff stated events place) = true
+mayMove o = kindOf o .moves

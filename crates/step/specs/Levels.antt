@@ -3,12 +3,9 @@
 use Prim.Native.Nat.{ℕ}
 use mathlib.Core.Bool.{Bool, true, false, cond}
 use Rattle.channel.specs.declared.Channel.{Channel}
-use Rattle.channel.specs.declared.LoadState.{LoadState}
-use Rattle.channel.specs.declared.LoadState.the-variants.{WaitingForLsb, WaitingForMsb}
-use Rattle.channel.specs.declared.RwMode.{RwMode}
-use Rattle.channel.specs.declared.RwMode.the-variants.{Lsb, Msb, LsbMsb}
 use Rattle.channel.specs.Modes.{byMode}
-use Rattle.gate.specs.Gate.{waitsForReload}
+use Rattle.channel.specs.Shared.{waitsForReload}
+use Rattle.load.specs.Write.{beginsWord}
 use Rattle.board.specs.declared.Board.{Board}
 use Rattle.board.specs.Board.{channelAt}
 
@@ -16,17 +13,10 @@ use Rattle.board.specs.Board.{channelAt}
 abbrev pub levelAt : Board → ℕ → Bool
 levelAt b n = channelAt b n .pins .output
 
--- the byte that is written is "the low byte of a two-byte load"
-abbrev pub lowOfTwo : RwMode → LoadState → Bool
-lowOfTwo Lsb state = false
-lowOfTwo Msb state = false
-lowOfTwo LsbMsb WaitingForLsb = true
-lowOfTwo LsbMsb WaitingForMsb = false
-
 -- "In mode 0 the low byte of a two-byte load drops the output"; no other byte moves it
 abbrev pub levelAfterWrite : Channel → Bool
 levelAfterWrite c =
-    cond (byMode (lowOfTwo (c .control .«rw_mode») (c .load .«load_state»)) false false false false false (c .control .mode)) false
+    cond (byMode (beginsWord (c .control .«rw_mode») (c .load .«load_state»)) false false false false false (c .control .mode)) false
     (c .pins .output)
 
 -- an edge from high to low

@@ -1,6 +1,6 @@
 -- A call of the board, with all that it is given: the lent event bytes and the place in them too.
 use Prim.Native.Nat.{ℕ}
-use mathlib.Core.Bool.{Bool}
+use mathlib.Core.Bool.{Bool, true, false}
 use mathlib.Core.List.{List, []}
 
 pub data Operation : Type 0 where
@@ -19,19 +19,54 @@ pub data Operation : Type 0 where
   GetTimerAccum : Operation
   WorkOff : (stated : ℕ) (events : List ℕ) (place : ℕ) → Operation
 
+-- What kind of call it is. What is said of all calls goes by their kind, so a new call is one line of `kindOf`.
+pub record Kind : Type 0 where
+  -- the event bytes that it lends
+  pub lends : List ℕ
+  -- it may move an output
+  pub moves : Bool
+  -- it lets time pass, and the system ticks that it is given
+  pub timed : Bool
+  pub given : ℕ
+  -- it works ticks off
+  pub works : Bool
+
+-- a port write or a gate, which tells of the output that it moves
+abbrev pub heard : List ℕ → Kind
+heard events = record { lends = events; moves = true; timed = false; given = 0; works = false }
+
+-- so does the call that works ticks off
+abbrev pub working : List ℕ → Kind
+working events = record { lends = events; moves = true; timed = false; given = 0; works = true }
+
+-- a reset raises no event
+abbrev pub resetting : Kind
+resetting = record { lends = []; moves = true; timed = false; given = 0; works = false }
+
+-- catch-up and run
+abbrev pub timeCall : ℕ → Kind
+timeCall given = record { lends = []; moves = false; timed = true; given = given; works = false }
+
+-- a read, counts, a load cycle or a query
+abbrev pub still : Kind
+still = record { lends = []; moves = false; timed = false; given = 0; works = false }
+
+abbrev pub kindOf : Operation → Kind
+kindOf (WritePort port byte events place) = heard events
+kindOf (ReadPort port) = still
+kindOf (SetChannelGate channel level events place) = heard events
+kindOf (Counts channel number) = still
+kindOf (LoadCycle channel) = still
+kindOf (CatchUp given) = timeCall given
+kindOf (Run given) = timeCall given
+kindOf Reset = resetting
+kindOf (GetOutputState channel) = still
+kindOf (GetChannelCount channel) = still
+kindOf (DoesChannelRetrigger channel) = still
+kindOf (IsDirty channel) = still
+kindOf GetTimerAccum = still
+kindOf (WorkOff stated events place) = working events
+
 -- the event bytes that a call lends: a port write's, a gate's, and those of ticks worked off, no others
 abbrev pub lent : Operation → List ℕ
-lent (WritePort port byte events place) = events
-lent (ReadPort port) = []
-lent (SetChannelGate channel level events place) = events
-lent (Counts channel number) = []
-lent (LoadCycle channel) = []
-lent (CatchUp given) = []
-lent (Run given) = []
-lent Reset = []
-lent (GetOutputState channel) = []
-lent (GetChannelCount channel) = []
-lent (DoesChannelRetrigger channel) = []
-lent (IsDirty channel) = []
-lent GetTimerAccum = []
-lent (WorkOff stated events place) = events
+lent o = kindOf o .lends

@@ -1,27 +1,18 @@
 -- 02, L1: "Timer ticks of a run or catch-up become owed ticks on the board": none is lost and none is made twice.
 use Prim.Native.Nat.{ℕ, _+_}
-use mathlib.Core.Bool.{Bool, true, false}
+use mathlib.Core.Bool.{Bool, false, _||_}
 use mathlib.Core.List.{List, [], _∷_}
 use mathlib.Core.Path.{_≡_}
 use Rattle.refusal.specs.Reply.{Reply, refused, accepted}
 use Rattle.board.specs.declared.Board.{Board}
-use Rattle.board.specs.Outcome.{Value, done, newPlace, byte, ticks, outputState, channelCount, retriggers, dirtyMarks, timerAccum, worked}
-use Rattle.step.specs.Operation.{Operation, WritePort, ReadPort, SetChannelGate, Counts, LoadCycle, CatchUp, Run, Reset, GetOutputState, GetChannelCount, DoesChannelRetrigger, IsDirty, GetTimerAccum, WorkOff}
+use Rattle.board.specs.Outcome.{Value}
+use Rattle.step.specs.Operation.{Operation, kindOf}
 use Rattle.step.specs.Step.{step, steps}
-use Rattle.step.specs.Time.{yielded, allYielded}
+use Rattle.step.specs.Time.{amountsIn, yielded, allYielded}
 
 -- ticks made, in what an accepted call says
 abbrev pub madeIn : Value → ℕ
-madeIn done = 0
-madeIn (newPlace p) = 0
-madeIn (byte x) = 0
-madeIn (ticks n) = 0
-madeIn (outputState level) = 0
-madeIn (channelCount register element counting) = 0
-madeIn (retriggers answer) = 0
-madeIn (dirtyMarks dirty counting ticked) = 0
-madeIn (timerAccum left) = 0
-madeIn (worked made p) = made
+madeIn value = amountsIn value .made
 
 -- ticks that a reply says were made
 abbrev pub madeBy : Reply Value → ℕ
@@ -35,20 +26,7 @@ allMade b (o ∷ os) = madeBy (step b o .reply) + allMade (step b o .board) os
 
 -- which operations may change the number of ticks owed: catch-up and run, which bring some, and the call that works them off
 abbrev pub changesOwed : Operation → Bool
-changesOwed (WritePort port written events place) = false
-changesOwed (ReadPort port) = false
-changesOwed (SetChannelGate channel level events place) = false
-changesOwed (Counts channel number) = false
-changesOwed (LoadCycle channel) = false
-changesOwed (CatchUp given) = true
-changesOwed (Run given) = true
-changesOwed Reset = false
-changesOwed (GetOutputState channel) = false
-changesOwed (GetChannelCount channel) = false
-changesOwed (DoesChannelRetrigger channel) = false
-changesOwed (IsDirty channel) = false
-changesOwed GetTimerAccum = false
-changesOwed (WorkOff stated events place) = true
+changesOwed o = kindOf o .timed || kindOf o .works
 
 -- every operation, a refused one too: what is owed after it and what it made is what was owed before it and what it yielded
 abbrev pub OwedKept : Type 0

@@ -12,7 +12,7 @@ use Rattle.channel.specs.Queries.{doesRetrigger}
 use Rattle.channel.specs.Shared.{changeChannelState, changeOutputState, putElement}
 use Rattle.channel.proofs.Keeps.{kept-then}
 use Rattle.count.specs.Count.{count}
-use Rattle.tick.specs.declared.due.Kind.the-variants.{Load, Reload, Count}
+use Rattle.tick.specs.declared.due.Kind.the-variants.{Load, Reload}
 use Rattle.tick.specs.Due.{due}
 use Rattle.tick.specs.Taken.{takes}
 use Rattle.tick.specs.Tick.{neverLoaded, sentBack, loadAt, endsHalf, lingers, halfOver, afterCounts, tick}

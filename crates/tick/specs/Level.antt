@@ -5,13 +5,17 @@ use lib.Dec.{eqb}
 use Rattle.channel.specs.declared.ChannelMode.{ChannelMode}
 use Rattle.channel.specs.Modes.{byMode}
 
--- a tick that neither loads nor counts: M2, M4 and M5 have the output low for one tick only
-abbrev pub restLevel : ChannelMode → Bool → Bool
-restLevel m level = byMode level level true level true true m
+-- M2, M4 and M5 have the output low for one tick only
+abbrev pub pulses : ChannelMode → Bool
+pulses = byMode false false true false true true
 
--- whether such a tick leaves the output where it is: high alone in modes 2, 4 and 5, either level in the others
+-- a tick that neither loads nor counts
+abbrev pub restLevel : ChannelMode → Bool → Bool
+restLevel m level = pulses m || level
+
+-- whether such a tick leaves the output where it is
 abbrev pub restsAt : ChannelMode → Bool → Bool
-restsAt m level = byMode true true level true level level m
+restsAt m level = not (pulses m) || level
 
 -- a tick that loads a count: M0, M1 low; M2 to M5 high
 abbrev pub loadLevel : ChannelMode → Bool

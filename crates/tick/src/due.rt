@@ -4,7 +4,7 @@ use channel::ChannelMode;
 use channel::ChannelState;
 use channel::ReloadFlag;
 ghost use mathlib.Core.Path.{_≡_};
-ghost use Rattle.tick.specs.Due.{triggered, runs, whileRunning, reloadsFrom, countingDue, flagDue, due};
+ghost use Rattle.tick.specs.Due.{triggered, runs, reloadsFrom, countingDue, flagDue, due};
 
 pub enum Kind {
     // Nothing but the passing of time.

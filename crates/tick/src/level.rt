@@ -3,7 +3,7 @@ use channel::Channel;
 use channel::ChannelMode;
 ghost use mathlib.Core.Path.{_≡_};
 ghost use Rattle.tick.specs.Taken.{squareTakes, takes};
-ghost use Rattle.tick.specs.Level.{restLevel, loadLevel, reloadLevel, strobes, countLevel};
+ghost use Rattle.tick.specs.Level.{pulses, restLevel, loadLevel, reloadLevel, strobes, countLevel};
 
 // On the 8254 every element that mode 3 loads is even.
 fn square_takes(output: bool, element: u16) -> u32
@@ -35,17 +35,27 @@ pub fn takes(c: Channel) -> u32
     }
 }
 
-pub fn rest_level(mode: ChannelMode, level: bool) -> bool
-    ensures { λ r. ⌜ r ≡ restLevel mode level ⌝ }
+// The output is low for one tick only.
+pub fn pulses(mode: ChannelMode) -> bool
+    ensures { λ r. ⌜ r ≡ pulses mode ⌝ }
 {
     match mode {
-        ChannelMode::InterruptOnTerminalCount => level,
-        ChannelMode::HardwareRetriggerableOneShot => level,
+        ChannelMode::InterruptOnTerminalCount => false,
+        ChannelMode::HardwareRetriggerableOneShot => false,
         ChannelMode::RateGenerator => true,
-        ChannelMode::SquareWaveGenerator => level,
+        ChannelMode::SquareWaveGenerator => false,
         ChannelMode::SoftwareTriggeredStrobe => true,
         ChannelMode::HardwareTriggeredStrobe => true,
     }
+}
+
+pub fn rest_level(mode: ChannelMode, level: bool) -> bool
+    ensures { λ r. ⌜ r ≡ restLevel mode level ⌝ }
+{
+    if pulses(mode) {
+        return true;
+    }
+    level
 }
 
 pub fn load_level(mode: ChannelMode) -> bool

@@ -8,6 +8,7 @@ use channel::Channel;
 use channel::PitType;
 pub use counting::older;
 use due::Kind;
+pub use level::pulses;
 pub use level::takes;
 pub use loading::never_loaded;
 ghost use mathlib.Core.Path.{_≡_};

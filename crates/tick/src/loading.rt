@@ -1,11 +1,9 @@
 // Ticks that load, or that make a load due: docs/TICK.md, table B.
 use crate::level::rest_level;
 use channel::Channel;
-use channel::ChannelMode;
 use channel::ChannelState;
 use channel::ReloadFlag;
 ghost use mathlib.Core.Path.{_≡_};
-ghost use Rattle.channel.specs.Queries.{doesRetrigger};
 ghost use Rattle.tick.specs.Tick.{rested, deferred, neverLoaded, sentBack, withArmed, loaded, loadAt};
 
 // The output where a tick that neither loads nor counts leaves it.

@@ -1,8 +1,5 @@
 -- An answer of the code is known by what it says: a sound value, or document 01's number and place. Assumes nothing.
-use Prim.Native.Nat.{ℕ}
 use mathlib.Core.Path.{_≡_, refl, ap}
-use Rattle.refusal.specs.declared.Refusal.{Refusal}
-use Rattle.refusal.specs.Refusal.{refusalNumber}
 use Rattle.refusal.proofs.Apart.{apart-by}
 use Rattle.refusal.proofs.Numbered.{refusalNumbered, numbered-back}
 use Rattle.trace.specs.declared.Fault.{Fault}
@@ -12,17 +9,17 @@ use Rattle.trace.specs.declared.head.Judged.the-variants as judged
 use Rattle.trace.specs.declared.operation.Operation.{Operation}
 use Rattle.trace.specs.declared.operation.OperationJudged.{OperationJudged}
 use Rattle.trace.specs.declared.operation.OperationJudged.the-variants as operation
-use Rattle.trace.specs.Judgement.{Judgement, refusedAt, sound}
-use Rattle.trace.specs.Answer.{headJudged, operationJudged}
+use Rattle.trace.specs.Judgement.{Judgement, Faulted, refusedBy, sound}
+use Rattle.trace.specs.Answer.{faultOf, headJudged, operationJudged}
 
-abbrev faultAt : ℕ → Refusal → Fault
-faultAt place refusal = record { refusal = refusal; place = place }
+abbrev faultFrom : Faulted → Fault
+faultFrom f = record { refusal = refusalNumbered (f .number); place = f .place }
 
-fault-back : (f : Fault) → faultAt (f .place) (refusalNumbered (refusalNumber (f .refusal))) ≡ f
-fault-back f = ap (faultAt (f .place)) (numbered-back (f .refusal))
+fault-back : (f : Fault) → faultFrom (faultOf f) ≡ f
+fault-back f = λ i. record { refusal = numbered-back (f .refusal) i; place = f .place }
 
 abbrev judgedOf : Judgement Head → Judged
-judgedOf (refusedAt number place) = judged.Refused (faultAt place (refusalNumbered number))
+judgedOf (refusedBy f) = judged.Refused (faultFrom f)
 judgedOf (sound head) = judged.Sound head
 
 judged-back : (r : Judged) → judgedOf (headJudged r) ≡ r
@@ -33,7 +30,7 @@ pub judged-apart : (r s : Judged) → headJudged r ≡ headJudged s → r ≡ s
 judged-apart = apart-by headJudged judgedOf judged-back
 
 abbrev operationJudgedOf : Judgement Operation → OperationJudged
-operationJudgedOf (refusedAt number place) = operation.Refused (faultAt place (refusalNumbered number))
+operationJudgedOf (refusedBy f) = operation.Refused (faultFrom f)
 operationJudgedOf (sound o) = operation.Sound o
 
 operation-judged-back : (r : OperationJudged) → operationJudgedOf (operationJudged r) ≡ r

@@ -9,7 +9,8 @@ use Rattle.trace.specs.declared.operation.Operation.the-variants.{WorkOf
 use Rattle.trace.specs.declared.rule.Rule.{Rule}
 use Rattle.trace.specs.declared.rule.Rule.the-variants.{None, Code, Target, Number}
 use Rattle.trace.specs.Rule.{brokenRule}
-use Rattle.trace.specs.Operation.{operationOf, NoneOfFour}
+use Rattle.trace.specs.Operation.{operationOf}
+use Rattle.trace.specs.Inner.{NoneOfFour}
 
 -- what is no code below 9 works ticks off
 pub last-code : (code target number : ℕ) → NoneOfFour code → (code ≡ 5 → ⊥) → (code ≡ 6 → ⊥) → (code ≡ 7 → ⊥) → (code ≡ 8 → ⊥)

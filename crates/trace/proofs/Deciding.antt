@@ -6,50 +6,40 @@ use mathlib.Core.List.{List, [], _∷_}
 use mathlib.Core.Logic.{_⊎_, inl, inr, ⊎-elim, _↔_}
 use lib.Dec.{ltb, eqb}
 use borrow.Author.Tests.{ltb-false, le-ltb, eqb-true, eq-eqb, not-false}
-use Rattle.trace.specs.Judgement.{Judgement, refusedAt, sound, andThen}
+use Rattle.trace.specs.Judgement.{Judgement, Faulted, refusedBy, sound, faultAt, andThen}
 use Rattle.trace.specs.Refusals.{Row, FirstAt}
 use Rattle.trace.proofs.Values.{not-refused, again}
 
-pub record Decided {A : Type 0} (j : Judgement A) (rows : List Row) (number place : ℕ) : Type 0 where
-  pub exactly : (j ≡ refusedAt number place) ↔ FirstAt rows number place
+pub record Decided {A : Type 0} (j : Judgement A) (rows : List Row) (f : Faulted) : Type 0 where
+  pub exactly : (j ≡ refusedBy f) ↔ FirstAt rows f
 
 -- nothing is left to refuse
-pub accepts : {A : Type 0} (value : A) (number place : ℕ) → Decided (sound value) [] number place
-accepts value number place = record { exactly = (not-refused value number place, λ none. absurd none) }
+pub accepts : {A : Type 0} (value : A) (f : Faulted) → Decided (sound value) [] f
+accepts value f = record { exactly = (not-refused value f, λ none. absurd none) }
 
-abbrev numberIn : {A : Type 0} → Judgement A → ℕ
-numberIn (refusedAt number place) = number
-numberIn (sound value) = 0
-
-abbrev placeIn : {A : Type 0} → Judgement A → ℕ
-placeIn (refusedAt number place) = place
-placeIn (sound value) = 0
+abbrev faultIn : {A : Type 0} → Judgement A → Faulted
+faultIn (refusedBy f) = f
+faultIn (sound value) = faultAt 0 0
 
 -- a test that holds exactly when the row's condition does; where it fails, the rows after it decide
-pub tested : {A : Type 0} (test : Bool) (r : Row) (rest : List Row) (after : Judgement A) (number place : ℕ) → (test ≡ true) ↔ r .condition
-    → (test ≡ false → Decided after rest number place) → Decided (cond test (refusedAt (r .number) (r .place)) after) (r ∷ rest) number place
-tested true r rest after number place means others =
+pub tested : {A : Type 0} (test : Bool) (r : Row) (rest : List Row) (after : Judgement A) (f : Faulted) → (test ≡ true) ↔ r .condition
+    → (test ≡ false → Decided after rest f) → Decided (cond test (refusedBy (r .fault)) after) (r ∷ rest) f
+tested true r rest after f means others =
     let holds = means .0 refl in
     record {
-      exactly = (
-        λ e. inl (sym (ap numberIn e), sym (ap placeIn e), holds),
-        ⊎-elim (λ first i. refusedAt (sym (first .0) i) (sym (first .1) i)) (λ later. absurd (later .0 holds)),
-      );
+      exactly = (λ e. inl (sym (ap faultIn e), holds), ⊎-elim (λ first. ap refusedBy (sym (first .0))) (λ later. absurd (later .0 holds)));
     }
-tested false r rest after number place means others =
+tested false r rest after f means others =
     let fails : r .condition → ⊥ = λ holds. false≢true (means .1 holds) in
-    record { exactly = (λ e. inr (fails, others refl .exactly .0 e), ⊎-elim (λ first. absurd (fails (first .2))) (λ later. others refl .exactly .1 (later .1))) }
+    record { exactly = (λ e. inr (fails, others refl .exactly .0 e), ⊎-elim (λ first. absurd (fails (first .1))) (λ later. others refl .exactly .1 (later .1))) }
 
 -- what is made of the value changes no refusal
-pub made-of : {A B : Type 0} (j : Judgement A) (f : A → B) (rows : List Row) (number place : ℕ) → Decided j rows number place
-    → Decided (andThen j (λ value. sound (f value))) rows number place
-made-of (refusedAt n p) f rows number place d = record { exactly = (λ e. d .exactly .0 (ap again e), λ first. ap again (d .exactly .1 first)) }
-made-of (sound value) f rows number place d =
+pub made-of : {A B : Type 0} (j : Judgement A) (g : A → B) (rows : List Row) (f : Faulted) → Decided j rows f
+    → Decided (andThen j (λ value. sound (g value))) rows f
+made-of (refusedBy other) g rows f d = record { exactly = (λ e. d .exactly .0 (ap again e), λ first. ap again (d .exactly .1 first)) }
+made-of (sound value) g rows f d =
     record {
-      exactly = (
-        λ e. absurd (not-refused (f value) number place e),
-        λ first. absurd (not-refused value number place (d .exactly .1 first)),
-      );
+      exactly = (λ e. absurd (not-refused (g value) f e), λ first. absurd (not-refused value f (d .exactly .1 first)));
     }
 
 -- what the tests mean

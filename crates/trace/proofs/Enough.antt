@@ -1,4 +1,4 @@
--- Nothing past the 24,593 first bytes, one more than the longest trace has, counts for the judgement of a trace. Assumes nothing.
+-- Nothing past as many bytes as the longest trace has, and one more, counts for the judgement of a trace. Assumes nothing.
 use Prim.Native.Nat.{ℕ, zero, suc, _+_, _<_, _≤_}
 use mathlib.Core.Path.{_≡_, refl, ap}
 use mathlib.Core.Bool.{Bool, true, false, not}
@@ -12,6 +12,7 @@ use Rattle.channel.proofs.Pick.{pick-holds, pick-knowing}
 use Rattle.trace.specs.declared.head.Head.{Head}
 use Rattle.trace.specs.Judgement.{Judgement}
 use Rattle.numbers.specs.Number.{numberAt}
+use Rattle.trace.specs.Sizes.{longestTrace}
 use Rattle.trace.specs.Head.{readHead}
 use Rattle.trace.specs.Operation.{placeOf, operationAt}
 use Rattle.trace.specs.Trace.{operationsFrom, afterHead, readTrace}
@@ -19,11 +20,11 @@ use Rattle.trace.proofs.Values.{OfSound, after-same}
 
 -- two lists that are both longer than the longest trace, and alike in its places
 record Alike (a b : List ℕ) : Type 0 where
-  first-long : 24592 < length a
-  second-long : 24592 < length b
-  alike : (p : ℕ) → p < 24592 → getD a p 0 ≡ getD b p 0
+  first-long : longestTrace < length a
+  second-long : longestTrace < length b
+  alike : (p : ℕ) → p < longestTrace → getD a p 0 ≡ getD b p 0
 
-number-alike : (a b : List ℕ) → Alike a b → (p : ℕ) → p + 4 ≤ 24592 → numberAt a p ≡ numberAt b p
+number-alike : (a b : List ℕ) → Alike a b → (p : ℕ) → p + 4 ≤ longestTrace → numberAt a p ≡ numberAt b p
 unfolding numberAt
 number-alike a b s p h =
     simp (s .alike p (omega arith), s .alike (p + 1) (omega arith), s .alike (p + 2) (omega arith), s .alike (p + 2 + 1) (omega arith))
@@ -31,7 +32,7 @@ number-alike a b s p h =
 head-alike : (a b : List ℕ) → Alike a b → readHead a ≡ readHead b
 unfolding readHead
 head-alike a b s =
-    let there : (l : List ℕ) → 24592 < length l → (end : ℕ) → end ≤ 24592 → ltb (length l) end ≡ false = λ l long end h. le-ltb (length l) end (omega arith) in
+    let there : (l : List ℕ) → longestTrace < length l → (end : ℕ) → end ≤ longestTrace → ltb (length l) end ≡ false = λ l long end h. le-ltb (length l) end (omega arith) in
     let in-a = there a (s .first-long) in
     let in-b = there b (s .second-long) in
     let number = number-alike a b s in
@@ -73,7 +74,7 @@ trace-alike a b s =
     (after-same _ (readHead b) (afterHead a) (afterHead b) (few b)
     (λ h l. rw (operations-alike a b s 0 (h .operations) (omega arith)) refl))
 
-by-length : (bytes : List ℕ) (n : ℕ) → 24593 ≤ n → (longer : Bool) → ltb n (length bytes) ≡ longer → readTrace (take n bytes) ≡ readTrace bytes
+by-length : (bytes : List ℕ) (n : ℕ) → longestTrace + 1 ≤ n → (longer : Bool) → ltb n (length bytes) ≡ longer → readTrace (take n bytes) ≡ readTrace bytes
 by-length bytes n h true e =
     let long = ltb-true n (length bytes) e in
     let cut = length-take-le n bytes (omega arith) in
@@ -81,5 +82,5 @@ by-length bytes n h true e =
     (record { first-long = omega arith; second-long = omega arith; alike = λ p l. getD-take n bytes p 0 (omega arith) })
 by-length bytes n h false e = ap readTrace (take-all n bytes (ltb-false n (length bytes) e))
 
-pub first-bytes-decide : (bytes : List ℕ) (n : ℕ) → 24593 ≤ n → readTrace (take n bytes) ≡ readTrace bytes
+pub first-bytes-decide : (bytes : List ℕ) (n : ℕ) → longestTrace + 1 ≤ n → readTrace (take n bytes) ≡ readTrace bytes
 first-bytes-decide bytes n h = by-length bytes n h (ltb n (length bytes)) refl

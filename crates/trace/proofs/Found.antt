@@ -12,22 +12,22 @@ use Rattle.trace.specs.declared.operation.Operation.{Operation}
 use Rattle.trace.specs.declared.operation.Operation.the-variants.{Reset}
 use Rattle.trace.specs.declared.rule.Rule.{Rule}
 use Rattle.trace.specs.declared.rule.Rule.the-variants.{None, Code, Target, Number}
-use Rattle.trace.specs.Judgement.{Judgement, refusedAt, sound}
+use Rattle.trace.specs.Judgement.{Judgement, refusedBy, sound, faultAt}
 use Rattle.trace.specs.Rule.{brokenRule}
 use Rattle.trace.specs.Operation.{operationOf, judgedBy, sixBytes, fitted, unjudged, placeOf, operationAt, operationIn}
 use Rattle.trace.proofs.Codes.{kept}
 use Rattle.trace.proofs.Values.{not-refused}
 
 abbrev valueOr : {A : Type 0} → A → Judgement A → A
-valueOr other (refusedAt number place) = other
+valueOr other (refusedBy f) = other
 valueOr other (sound value) = value
 
 -- what is judged sound broke no rule, and is what was judged
 ruled-sound : {A : Type 0} (rule : Rule) (place : ℕ) (value found : A) → judgedBy rule place value ≡ sound found → (rule ≡ None) × (value ≡ found)
 ruled-sound None place value found e = (refl, ap (valueOr found) e)
-ruled-sound Code place value found e = absurd (not-refused found 12 place (sym e))
-ruled-sound Target place value found e = absurd (not-refused found 14 (place + 1) (sym e))
-ruled-sound Number place value found e = absurd (not-refused found 14 (place + 2) (sym e))
+ruled-sound Code place value found e = absurd (not-refused found (faultAt 12 place) (sym e))
+ruled-sound Target place value found e = absurd (not-refused found (faultAt 14 (place + 1)) (sym e))
+ruled-sound Number place value found e = absurd (not-refused found (faultAt 14 (place + 2)) (sym e))
 
 fits-itself : (code number : ℕ) (one : Bool) → eqb code 1 ≡ one → (code ≡ 1 → number < 256) → cond one (number % 256) number ≡ number
 fits-itself code number true is few = let h = few (eqb-true code 1 is) in omega (arith, h)
@@ -49,7 +49,7 @@ module _ (bytes : List ℕ) (index : ℕ) (o : Operation) (is : operationAt byte
 
   missing : length bytes < placeOf index + 6 → ⊥
   unfolding operationAt
-  missing h = not-refused o 9 (length bytes) (sym is ∙ simp (lt-ltb (length bytes) (placeOf index + 6) h))
+  missing h = not-refused o (faultAt 9 (length bytes)) (sym is ∙ simp (lt-ltb (length bytes) (placeOf index + 6) h))
 
   there : placeOf index + 6 ≤ length bytes → unjudged bytes (placeOf index) ≡ o
   unfolding operationAt

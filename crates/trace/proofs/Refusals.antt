@@ -1,7 +1,7 @@
 -- Demand 1 for traces: the number and the place of a refusal are those of the first row whose condition holds, both ways. Assumes nothing.
 use Prim.Native.Nat.{ℕ, zero, suc, _+_, _≤_}
 use mathlib.Core.Path.{_≡_, sym, _∙_}
-use mathlib.Core.Bool.{Bool, true, false, not, _||_}
+use mathlib.Core.Bool.{Bool, true, false, not, cond, _||_}
 use mathlib.Core.List.{List, [], _∷_, _++_}
 use mathlib.Core.Logic.{_⊎_, inl, inr, ⊎-elim, _↔_}
 use native.Mathlib.Nat.{eq-or-lt-of-le}
@@ -14,7 +14,7 @@ use Rattle.channel.proofs.Pick.{of-pick}
 use Rattle.trace.specs.declared.rule.Rule.{Rule}
 use Rattle.trace.specs.declared.operation.Operation.{Operation}
 use Rattle.trace.specs.declared.head.Head.{Head}
-use Rattle.trace.specs.Judgement.{Judgement, refusedAt, present, ruled, andThen}
+use Rattle.trace.specs.Judgement.{Judgement, Faulted, refusedBy, present, andThen}
 use Rattle.numbers.specs.Number.{numberAt}
 use Rattle.trace.specs.Head.{headOf, readHead}
 use Rattle.trace.specs.Rule.{codeBroken, targetBroken, numberBroken}
@@ -63,46 +63,46 @@ number-kept code number =
       λ kept. by-code .1 (kept .0, λ other. (kept .1, λ not-one. (kept .2, λ not-three. tt))),
     )
 
-operation-decided : (bytes : List ℕ) (i : ℕ) (rest : Judgement (List Operation)) (rows : List Row) (number place : ℕ) → Decided rest rows number place
-    → Decided (andThen (operationAt bytes i) (before rest)) (operationOrder bytes (placeOf i) ++ rows) number place
+operation-decided : (bytes : List ℕ) (i : ℕ) (rest : Judgement (List Operation)) (rows : List Row) (f : Faulted) → Decided rest rows f
+    → Decided (andThen (operationAt bytes i) (before rest)) (operationOrder bytes (placeOf i) ++ rows) f
 unfolding operationAt
-operation-decided bytes i rest rows number place d =
+operation-decided bytes i rest rows f d =
     let p = placeOf i in
     let code = getD bytes p 0 in
     let target = getD bytes (p + 1) 0 in
     let given = numberAt bytes (p + 2) in
     simp (of-pick (λ (j : Judgement Operation). andThen j (before rest)), of-pick (λ (r : Rule). andThen (judgedBy r p (operationOf code target given)) (before rest)))
-    (tested (ltb (length bytes) (p + 6)) (endsBefore bytes (p + 6)) _ _ number place (below (length bytes) (p + 6)) (λ there.
-    tested (codeBroken code) (unknownCode bytes p) _ _ number place (breaks (codeBroken code) (code-kept code)) (λ known.
-    tested (targetBroken code target) (targetNotZero bytes p) _ _ number place (breaks (targetBroken code target) (target-kept code target (code-kept code .0 known .1))) (λ t.
-    tested (numberBroken code given) (numberBreaksRule bytes p) _ _ number place (breaks (numberBroken code given) (number-kept code given)) (λ n.
-    made-of rest (λ os. operationOf code target given ∷ os) rows number place d)))))
+    (tested (ltb (length bytes) (p + 6)) (endsBefore bytes (p + 6)) _ _ f (below (length bytes) (p + 6)) (λ there.
+    tested (codeBroken code) (unknownCode bytes p) _ _ f (breaks (codeBroken code) (code-kept code)) (λ known.
+    tested (targetBroken code target) (targetNotZero bytes p) _ _ f (breaks (targetBroken code target) (target-kept code target (code-kept code .0 known .1))) (λ t.
+    tested (numberBroken code given) (numberBreaksRule bytes p) _ _ f (breaks (numberBroken code given) (number-kept code given)) (λ n.
+    made-of rest (λ os. operationOf code target given ∷ os) rows f d)))))
 
-operations-decided : (bytes : List ℕ) (i n number place : ℕ) → Decided (operationsFrom bytes i n) (operationsOrder bytes i n) number place
-operations-decided bytes i zero number place =
-    tested (ltb (placeOf i) (length bytes)) (bytesAfter bytes (placeOf i)) [] _ number place (below (placeOf i) (length bytes)) (λ none. accepts [] number place)
-operations-decided bytes i (suc n) number place =
-    operation-decided bytes i (operationsFrom bytes (suc i) n) (operationsOrder bytes (suc i) n) number place (operations-decided bytes (suc i) n number place)
+operations-decided : (bytes : List ℕ) (i n : ℕ) (f : Faulted) → Decided (operationsFrom bytes i n) (operationsOrder bytes i n) f
+operations-decided bytes i zero f =
+    tested (ltb (placeOf i) (length bytes)) (bytesAfter bytes (placeOf i)) [] _ f (below (placeOf i) (length bytes)) (λ none. accepts [] f)
+operations-decided bytes i (suc n) f =
+    operation-decided bytes i (operationsFrom bytes (suc i) n) (operationsOrder bytes (suc i) n) f (operations-decided bytes (suc i) n f)
 
 -- a number that is first there and then by its rule
-field-decided : {A : Type 0} (bytes : List ℕ) (at : ℕ) (r : Row) (broken : Bool) (rest : List Row) (after : Judgement A) (number place : ℕ)
-    → (broken ≡ true) ↔ r .condition → Decided after rest number place
-    → Decided (present bytes (at + 4) (ruled broken (r .number) (r .place) after)) (endsBefore bytes (at + 4) ∷ r ∷ rest) number place
-field-decided bytes at r broken rest after number place means others =
-    tested (ltb (length bytes) (at + 4)) (endsBefore bytes (at + 4)) _ _ number place (below (length bytes) (at + 4))
-    (λ there. tested broken r rest after number place means (λ kept. others))
+field-decided : {A : Type 0} (bytes : List ℕ) (at : ℕ) (r : Row) (broken : Bool) (rest : List Row) (after : Judgement A) (f : Faulted)
+    → (broken ≡ true) ↔ r .condition → Decided after rest f
+    → Decided (present bytes (at + 4) (cond broken (refusedBy (r .fault)) after)) (endsBefore bytes (at + 4) ∷ r ∷ rest) f
+field-decided bytes at r broken rest after f means others =
+    tested (ltb (length bytes) (at + 4)) (endsBefore bytes (at + 4)) _ _ f (below (length bytes) (at + 4))
+    (λ there. tested broken r rest after f means (λ kept. others))
 
-trace-decided : (bytes : List ℕ) (number place : ℕ) → Decided (readTrace bytes) (order bytes) number place
+trace-decided : (bytes : List ℕ) (f : Faulted) → Decided (readTrace bytes) (order bytes) f
 unfolding readTrace readHead
-trace-decided bytes number place =
+trace-decided bytes f =
     let at = numberAt bytes in
     simp (of-pick (λ (j : Judgement Head). andThen j (afterHead bytes)))
-    (field-decided bytes 0 (settingsCount bytes) (not (eqb (at 0) 2)) _ _ number place (breaks _ (is (at 0) 2))
-    (field-decided bytes 4 (divisorZero bytes) (eqb (at 4) 0) _ _ number place (equal (at 4) 0)
-    (field-decided bytes 8 (modelAbove1 bytes) (ltb 1 (at 8)) _ _ number place (below 1 (at 8))
-    (field-decided bytes 12 (tooManyOperations bytes) (ltb 4096 (at 12)) _ _ number place (below 4096 (at 12))
-    (made-of (operationsFrom bytes 0 (at 12)) (traceOf (headOf bytes)) _ number place (operations-decided bytes 0 (at 12) number place))))))
+    (field-decided bytes 0 (settingsCount bytes) (not (eqb (at 0) 2)) _ _ f (breaks _ (is (at 0) 2))
+    (field-decided bytes 4 (divisorZero bytes) (eqb (at 4) 0) _ _ f (equal (at 4) 0)
+    (field-decided bytes 8 (modelAbove1 bytes) (ltb 1 (at 8)) _ _ f (below 1 (at 8))
+    (field-decided bytes 12 (tooManyOperations bytes) (ltb 4096 (at 12)) _ _ f (below 4096 (at 12))
+    (made-of (operationsFrom bytes 0 (at 12)) (traceOf (headOf bytes)) _ f (operations-decided bytes 0 (at 12) f))))))
 
 -- both directions, for all bytes, every number and every place
-pub trace-refused-exactly : (bytes : List ℕ) (number place : ℕ) → (readTrace bytes ≡ refusedAt number place) ↔ FirstAt (order bytes) number place
-trace-refused-exactly bytes number place = trace-decided bytes number place .exactly
+pub trace-refused-exactly : (bytes : List ℕ) (f : Faulted) → (readTrace bytes ≡ refusedBy f) ↔ FirstAt (order bytes) f
+trace-refused-exactly bytes f = trace-decided bytes f .exactly

@@ -4,10 +4,11 @@ use mathlib.Core.Path.{_≡_, refl, sym, ap, subst, _∙_}
 use mathlib.Core.List.{List}
 use Rattle.trace.specs.declared.head.Head.{Head}
 use Rattle.trace.specs.declared.operation.Operation.{Operation}
-use Rattle.trace.specs.Judgement.{Judgement, refusedAt, sound, andThen}
+use Rattle.trace.specs.Judgement.{Judgement, Faulted, refusedBy, sound, andThen}
 use Rattle.trace.specs.Head.{readHead}
 use Rattle.trace.specs.Trace.{Trace, operationsFrom, traceOf, readTrace}
-use Rattle.trace.specs.Answer.{soundness, summary, operationsOf}
+use Rattle.trace.specs.Answer.{summary}
+use Rattle.trace.specs.Inner.{soundness, operationsOf}
 use Rattle.trace.proofs.Values.{not-refused, again, OfSound, itself, through}
 use Rattle.trace.proofs.Turns.{in-turn}
 use Rattle.trace.proofs.Enough.{few}
@@ -22,7 +23,7 @@ by-operations : (bytes : List ℕ) (h : Head) → readHead bytes ≡ sound h →
     → (j : Judgement (List Operation)) → operationsFrom bytes 0 (h .operations) ≡ j
     → OfSound (SoundAs bytes) (andThen (soundness j) (λ u. sound h))
 unfolding readTrace
-by-operations bytes h head most (refusedAt number place) e = tt
+by-operations bytes h head most (refusedBy f) e = tt
 by-operations bytes h head most (sound os) e = record { not-too-many = most; all-sound = ap soundness e; whole = rw head (rw e refl) }
 
 pub judged-sound : (bytes : List ℕ) (h : Head) → summary (readTrace bytes) ≡ sound h → SoundAs bytes h
@@ -33,9 +34,9 @@ judged-sound bytes h e =
     (through in-head (SoundAs bytes) (readHead bytes) after (itself (readHead bytes))
     (λ d head. by-operations bytes d head (subst (OfSound (λ (g : Head). g .operations ≤ 4096)) head (few bytes)) (operationsFrom bytes 0 (d .operations)) refl))
 
-same-refusal : (j : Judgement Trace) (number place : ℕ) → summary j ≡ refusedAt number place → j ≡ refusedAt number place
-same-refusal (refusedAt n p) number place e = ap again e
-same-refusal (sound t) number place e = absurd (not-refused _ number place e)
+same-refusal : (j : Judgement Trace) (f : Faulted) → summary j ≡ refusedBy f → j ≡ refusedBy f
+same-refusal (refusedBy other) f e = ap again e
+same-refusal (sound t) f e = absurd (not-refused _ f e)
 
-pub judged-refused : (bytes : List ℕ) (number place : ℕ) → summary (readTrace bytes) ≡ refusedAt number place → readTrace bytes ≡ refusedAt number place
-judged-refused bytes number place e = same-refusal (readTrace bytes) number place e
+pub judged-refused : (bytes : List ℕ) (f : Faulted) → summary (readTrace bytes) ≡ refusedBy f → readTrace bytes ≡ refusedBy f
+judged-refused bytes f e = same-refusal (readTrace bytes) f e

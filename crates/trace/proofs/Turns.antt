@@ -8,39 +8,40 @@ use lib.ListN.{length}
 use Rattle.channel.proofs.Pick.{pick-holds}
 use Rattle.trace.specs.declared.head.Head.{Head}
 use Rattle.trace.specs.declared.operation.Operation.{Operation}
-use Rattle.trace.specs.Judgement.{Judgement, refusedAt, sound, andThen}
+use Rattle.trace.specs.Judgement.{Judgement, Faulted, refusedBy, sound, andThen}
 use Rattle.trace.specs.Head.{readHead}
 use Rattle.trace.specs.Operation.{placeOf, operationAt}
 use Rattle.trace.specs.Trace.{ending, before, operationsFrom, traceOf, afterHead, readTrace}
-use Rattle.trace.specs.Answer.{soundness, summary}
+use Rattle.trace.specs.Answer.{summary}
+use Rattle.trace.specs.Inner.{soundness}
 
 -- where k is below n, one operation is left, and those after it
 left-one : (k n : ℕ) → k < n → n - k ≡ suc (n - suc k)
 left-one k n h = omega arith
 
 before-sound : (rest : Judgement (List Operation)) (o : Operation) → soundness (before rest o) ≡ soundness rest
-before-sound (refusedAt number place) o = refl
+before-sound (refusedBy f) o = refl
 before-sound (sound os) o = refl
 
 pub goes-on : (bytes : List ℕ) (k n : ℕ) (o : Operation) → k < n → operationAt bytes k ≡ sound o
     → soundness (operationsFrom bytes k (n - k)) ≡ soundness (operationsFrom bytes (suc k) (n - suc k))
 goes-on bytes k n o h e = rw (left-one k n h) (rw e (before-sound (operationsFrom bytes (suc k) (n - suc k)) o))
 
-pub stops : (bytes : List ℕ) (k n number place : ℕ) → k < n → operationAt bytes k ≡ refusedAt number place
-    → soundness (operationsFrom bytes k (n - k)) ≡ refusedAt number place
-stops bytes k n number place h e = rw (left-one k n h) (rw e refl)
+pub stops : (bytes : List ℕ) (k n : ℕ) (f : Faulted) → k < n → operationAt bytes k ≡ refusedBy f
+    → soundness (operationsFrom bytes k (n - k)) ≡ refusedBy f
+stops bytes k n f h e = rw (left-one k n h) (rw e refl)
 
 pub at-end : (bytes : List ℕ) (k n : ℕ) → k ≡ n → soundness (operationsFrom bytes k (n - k)) ≡ soundness (ending bytes (placeOf n))
 at-end bytes k n e = let none : n - k ≡ zero = omega arith in rw none (rw e refl)
 
 -- a judgement of as many operations as are asked for
 abbrev pub Counts : ℕ → Judgement (List Operation) → Type 0
-Counts n (refusedAt number place) = Unit
+Counts n (refusedBy f) = Unit
 Counts n (sound os) = length os ≡ n
 
 one-more : (n : ℕ) (j : Judgement Operation) (rest : Judgement (List Operation)) → Counts n rest → Counts (suc n) (andThen j (before rest))
-one-more n (refusedAt number place) rest h = tt
-one-more n (sound o) (refusedAt number place) h = tt
+one-more n (refusedBy f) rest h = tt
+one-more n (sound o) (refusedBy f) h = tt
 one-more n (sound o) (sound os) h = ap suc h
 
 pub as-many : (bytes : List ℕ) (index n : ℕ) → Counts n (operationsFrom bytes index n)
@@ -49,12 +50,12 @@ as-many bytes index (suc n) = one-more n (operationAt bytes index) (operationsFr
 
 summed : (h : Head) (j : Judgement (List Operation)) → Counts (h .operations) j
     → summary (andThen j (λ os. sound (traceOf h os))) ≡ andThen (soundness j) (λ u. sound h)
-summed h (refusedAt number place) e = refl
+summed h (refusedBy f) e = refl
 summed h (sound os) e = ap (λ (n : ℕ). sound (record { divisor = h .divisor; model = h .model; operations = n })) e
 
 head-first : (bytes : List ℕ) (j : Judgement Head)
     → summary (andThen j (afterHead bytes)) ≡ andThen j (λ h. andThen (soundness (operationsFrom bytes 0 (h .operations))) (λ u. sound h))
-head-first bytes (refusedAt number place) = refl
+head-first bytes (refusedBy f) = refl
 head-first bytes (sound h) = summed h (operationsFrom bytes 0 (h .operations)) (as-many bytes 0 (h .operations))
 
 -- a trace is judged by its head, and then by its operations

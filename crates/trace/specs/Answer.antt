@@ -1,6 +1,5 @@
 -- Document 01's number and place for each answer of the code, and what an answer says of a trace: the code holds no list of operations, it says how many
 -- there are and gives each by its index.
-use mathlib.Core.List.{List, []}
 use lib.ListN.{length}
 use Rattle.refusal.specs.Refusal.{refusalNumber}
 use Rattle.trace.specs.declared.Fault.{Fault}
@@ -10,33 +9,22 @@ use Rattle.trace.specs.declared.head.Judged.the-variants as judged
 use Rattle.trace.specs.declared.operation.Operation.{Operation}
 use Rattle.trace.specs.declared.operation.OperationJudged.{OperationJudged}
 use Rattle.trace.specs.declared.operation.OperationJudged.the-variants as operation
-use Rattle.trace.specs.declared.judging.Found.{Found}
-use Rattle.trace.specs.declared.judging.Found.the-variants as found
-use Rattle.trace.specs.Judgement.{Judgement, refusedAt, sound, andThen}
+use Rattle.trace.specs.Judgement.{Judgement, Faulted, refusedBy, sound, faultAt, andThen}
 use Rattle.trace.specs.Trace.{Trace}
 
 -- "its number" and "P" of a fault
-abbrev pub fault : {A : Type 0} → Fault → Judgement A
-fault f = refusedAt (refusalNumber (f .refusal)) (f .place)
+abbrev pub faultOf : Fault → Faulted
+faultOf f = faultAt (refusalNumber (f .refusal)) (f .place)
 
 -- what `read_head` and `judge` answer
 abbrev pub headJudged : Judged → Judgement Head
 headJudged (judged.Sound h) = sound h
-headJudged (judged.Refused f) = fault f
+headJudged (judged.Refused f) = refusedBy (faultOf f)
 
 -- what `operation_at` answers
 abbrev pub operationJudged : OperationJudged → Judgement Operation
 operationJudged (operation.Sound o) = sound o
-operationJudged (operation.Refused f) = fault f
-
--- whether the reader's later parts found a fault
-abbrev pub faultJudged : Found → Judgement Unit
-faultJudged (found.Fault f) = fault f
-faultJudged found.None = sound tt
-
--- whether there is a fault, and which
-abbrev pub soundness : {A : Type 0} → Judgement A → Judgement Unit
-soundness j = andThen j (λ value. sound tt)
+operationJudged (operation.Refused f) = refusedBy (faultOf f)
 
 -- what is said of a sound trace: divisor, model, and how many operations it has
 abbrev pub headIn : Trace → Head
@@ -45,8 +33,3 @@ headIn t = record { divisor = t .divisor; model = t .model; operations = length 
 -- .. or the fault
 abbrev pub summary : Judgement Trace → Judgement Head
 summary j = andThen j (λ t. sound (headIn t))
-
--- the operations of a sound judgement; of a fault there are none
-abbrev pub operationsOf : Judgement (List Operation) → List Operation
-operationsOf (refusedAt number place) = []
-operationsOf (sound os) = os

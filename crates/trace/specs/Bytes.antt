@@ -7,6 +7,7 @@ use Rattle.numbers.specs.Little.{fourBytes}
 use Rattle.channel.specs.Models.{modelNumber}
 use Rattle.trace.specs.declared.operation.Operation.{Operation}
 use Rattle.trace.specs.declared.operation.Operation.the-variants.{WritePort, ReadPort, SetChannelGate, Counts, LoadCycle, CatchUp, Run, Reset, WorkOff}
+use Rattle.trace.specs.Sizes.{mostOperations}
 use Rattle.trace.specs.Trace.{Trace}
 
 -- every number of a list is a byte. What a program reads is: its type says so
@@ -63,5 +64,5 @@ AllHold (o ∷ os) = Holds o × AllHold os
 pub record Writable (t : Trace) : Type 0 where
   pub divisor-above : 0 < t .divisor
   pub divisor-fits : t .divisor < 4294967296
-  pub not-too-many : length (t .operations) ≤ 4096
+  pub not-too-many : length (t .operations) ≤ mostOperations
   pub numbers-fit : AllHold (t .operations)

@@ -6,6 +6,7 @@ use lib.Dec.{eqb, ltb}
 use Rattle.numbers.specs.Number.{numberAt}
 use Rattle.channel.specs.Models.{modelNumbered}
 use Rattle.trace.specs.declared.head.Head.{Head}
+use Rattle.trace.specs.Sizes.{mostOperations}
 use Rattle.trace.specs.Judgement.{Judgement, sound, present, ruled}
 
 -- a number of four bytes that is first there and then by its rule
@@ -22,5 +23,5 @@ readHead bytes =
     field bytes 0 (λ count. not (eqb count 2)) 10
     (field bytes 4 (λ divisor. eqb divisor 0) 3
     (field bytes 8 (λ model. ltb 1 model) 14
-    (field bytes 12 (λ operations. ltb 4096 operations) 11
+    (field bytes 12 (λ operations. ltb mostOperations operations) 11
     (sound (headOf bytes)))))

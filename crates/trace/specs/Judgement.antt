@@ -6,10 +6,22 @@ use mathlib.Core.List.{List}
 use lib.Dec.{ltb}
 use lib.ListN.{length}
 
--- refused by a number at a place, or sound, with what was read
+-- "N", the refusal's number, and "P"
+pub record Faulted : Type 0 where
+  pub number : ℕ
+  pub place : ℕ
+
+-- refused by a fault, or sound, with what was read
 pub data Judgement (A : Type 0) : Type 0 where
-  refusedAt : (number place : ℕ) → Judgement A
+  refusedBy : Faulted → Judgement A
   sound : A → Judgement A
+
+-- a number at a place
+abbrev pub faultAt : ℕ → ℕ → Faulted
+faultAt number place = record { number = number; place = place }
+
+abbrev pub refusedAt : {A : Type 0} → ℕ → ℕ → Judgement A
+refusedAt number place = refusedBy (faultAt number place)
 
 -- "Fields are checked from the front: bytes present, then the rule." Bytes are wanted up to an end; what comes after is judged only if they are there
 abbrev pub present : {A : Type 0} → List ℕ → ℕ → Judgement A → Judgement A
@@ -21,5 +33,5 @@ ruled broken number place after = cond broken (refusedAt number place) after
 
 -- of two parts the first one's fault counts
 abbrev pub andThen : {A B : Type 0} → Judgement A → (A → Judgement B) → Judgement B
-andThen (refusedAt number place) after = refusedAt number place
+andThen (refusedBy f) after = refusedBy f
 andThen (sound value) after = after value

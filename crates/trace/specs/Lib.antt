@@ -1,8 +1,10 @@
+pub mod Sizes
 pub mod Judgement
 pub mod Head
 pub mod Rule
 pub mod Operation
 pub mod Trace
 pub mod Answer
+pub mod Inner
 pub mod Refusals
 pub mod Bytes

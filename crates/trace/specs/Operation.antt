@@ -2,7 +2,6 @@
 use Prim.Native.Nat.{ℕ, _+_, _*_, _%_}
 use mathlib.Core.Bool.{cond}
 use mathlib.Core.List.{List}
-use mathlib.Core.Path.{_≡_}
 use lib.Dec.{eqb, ltb}
 use lib.ListN.{length, getD}
 use Rattle.numbers.specs.Number.{numberAt}
@@ -10,6 +9,7 @@ use Rattle.trace.specs.declared.rule.Rule.{Rule}
 use Rattle.trace.specs.declared.rule.Rule.the-variants.{None, Code, Target, Number}
 use Rattle.trace.specs.declared.operation.Operation.{Operation}
 use Rattle.trace.specs.declared.operation.Operation.the-variants.{WritePort, ReadPort, SetChannelGate, Counts, LoadCycle, CatchUp, Run, Reset, WorkOff}
+use Rattle.trace.specs.Sizes.{headSize, operationSize}
 use Rattle.trace.specs.Judgement.{Judgement, refusedAt, sound, present}
 use Rattle.trace.specs.Rule.{brokenRule}
 
@@ -26,10 +26,6 @@ operationOf code target number =
     (cond (eqb code 7) (Run (record { 0 = number }))
     (cond (eqb code 8) Reset (WorkOff number))))))))
 
--- a code that is none of the first four
-abbrev pub NoneOfFour : ℕ → Type 0
-NoneOfFour code = (code ≡ 1 → ⊥) × (code ≡ 2 → ⊥) × (code ≡ 3 → ⊥) × (code ≡ 4 → ⊥)
-
 -- 12 "operation code not 1 to 8" ("12 now means not 1 to 9": 02, L1), 14 "a trace's ... target or number breaks its rule": each at its field
 abbrev pub judgedBy : {A : Type 0} → Rule → ℕ → A → Judgement A
 judgedBy None place value = sound value
@@ -43,13 +39,13 @@ sixBytes bytes place =
     judgedBy (brokenRule (getD bytes place 0) (getD bytes (place + 1) 0) (numberAt bytes (place + 2))) place
     (operationOf (getD bytes place 0) (getD bytes (place + 1) 0) (numberAt bytes (place + 2)))
 
--- the operations stand one after another behind the 16 bytes of the head
+-- the operations stand one after another behind the head
 abbrev pub placeOf : ℕ → ℕ
-placeOf index = 16 + 6 * index
+placeOf index = headSize + operationSize * index
 
 -- "Of an operation all six bytes, then code, target, number."
 unfoldable pub operationAt : List ℕ → ℕ → Judgement Operation
-operationAt bytes index = present bytes (placeOf index + 6) (sixBytes bytes (placeOf index))
+operationAt bytes index = present bytes (placeOf index + operationSize) (sixBytes bytes (placeOf index))
 
 -- a number as the code has it: of a write its low byte. By the rules a write has no other
 abbrev pub fitted : ℕ → ℕ → ℕ
@@ -62,4 +58,4 @@ unjudged bytes place =
 
 -- the operation of an index of a sound trace (`in-sound`); where its bytes are missing, a reset stands for it
 unfoldable pub operationIn : List ℕ → ℕ → Operation
-operationIn bytes index = cond (ltb (length bytes) (placeOf index + 6)) Reset (unjudged bytes (placeOf index))
+operationIn bytes index = cond (ltb (length bytes) (placeOf index + operationSize)) Reset (unjudged bytes (placeOf index))

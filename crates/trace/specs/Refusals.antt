@@ -5,37 +5,38 @@ use mathlib.Core.Logic.{_⊎_}
 use mathlib.Core.Path.{_≡_}
 use lib.ListN.{length, getD}
 use Rattle.numbers.specs.Number.{numberAt}
+use Rattle.trace.specs.Judgement.{Faulted, faultAt}
+use Rattle.trace.specs.Sizes.{operationSize, mostOperations}
 use Rattle.trace.specs.Operation.{placeOf}
 
 -- a number of the table, "P the field's offset", and its "Given exactly when"
 pub record Row : Type 1 where
-  pub number : ℕ
-  pub place : ℕ
+  pub fault : Faulted
   pub condition : Type 0
 
 -- 9: "trace ends inside a field or operation"; P is "total length for 9"
 abbrev pub endsBefore : List ℕ → ℕ → Row
-endsBefore bytes end = record { number = 9; place = length bytes; condition = length bytes < end }
+endsBefore bytes end = record { fault = faultAt 9 (length bytes); condition = length bytes < end }
 
 -- 10: "settings count not 2"
 abbrev pub settingsCount : List ℕ → Row
-settingsCount bytes = record { number = 10; place = 0; condition = numberAt bytes 0 ≡ 2 → ⊥ }
+settingsCount bytes = record { fault = faultAt 10 0; condition = numberAt bytes 0 ≡ 2 → ⊥ }
 
 -- "A zero divisor is 3."
 abbrev pub divisorZero : List ℕ → Row
-divisorZero bytes = record { number = 3; place = 4; condition = numberAt bytes 4 ≡ 0 }
+divisorZero bytes = record { fault = faultAt 3 4; condition = numberAt bytes 4 ≡ 0 }
 
 -- 14: "a trace's model ... breaks its rule"; "model (0 8253, 1 8254)"
 abbrev pub modelAbove1 : List ℕ → Row
-modelAbove1 bytes = record { number = 14; place = 8; condition = 1 < numberAt bytes 8 }
+modelAbove1 bytes = record { fault = faultAt 14 8; condition = 1 < numberAt bytes 8 }
 
 -- 11: "operation count above 4,096"
 abbrev pub tooManyOperations : List ℕ → Row
-tooManyOperations bytes = record { number = 11; place = 12; condition = 4096 < numberAt bytes 12 }
+tooManyOperations bytes = record { fault = faultAt 11 12; condition = mostOperations < numberAt bytes 12 }
 
 -- 12: "operation code not 1 to 8"; "12 now means not 1 to 9" (02, L1)
 abbrev pub unknownCode : List ℕ → ℕ → Row
-unknownCode bytes place = record { number = 12; place = place; condition = (1 ≤ getD bytes place 0) × (getD bytes place 0 ≤ 9) → ⊥ }
+unknownCode bytes place = record { fault = faultAt 12 place; condition = (1 ≤ getD bytes place 0) × (getD bytes place 0 ≤ 9) → ⊥ }
 
 -- "Target 0 for 6, 7, 8."; "Trace code 9, target 0" (02, L1)
 abbrev pub TargetRule : ℕ → ℕ → Type 0
@@ -43,7 +44,7 @@ TargetRule code target = (code ≡ 6) ⊎ ((code ≡ 7) ⊎ ((code ≡ 8) ⊎ (c
 
 -- 14: "a trace's ... target ... breaks its rule"
 abbrev pub targetNotZero : List ℕ → ℕ → Row
-targetNotZero bytes place = record { number = 14; place = place + 1; condition = TargetRule (getD bytes place 0) (getD bytes (place + 1) 0) → ⊥ }
+targetNotZero bytes place = record { fault = faultAt 14 (place + 1); condition = TargetRule (getD bytes place 0) (getD bytes (place + 1) 0) → ⊥ }
 
 -- "Number 0 for 2, 5, 8; at most 255 for 1; at most 1 for 3."
 abbrev pub NumberRule : ℕ → ℕ → Type 0
@@ -51,11 +52,11 @@ NumberRule code number = ((code ≡ 2) ⊎ ((code ≡ 5) ⊎ (code ≡ 8)) → n
 
 -- 14: "a trace's ... number breaks its rule"
 abbrev pub numberBreaksRule : List ℕ → ℕ → Row
-numberBreaksRule bytes place = record { number = 14; place = place + 2; condition = NumberRule (getD bytes place 0) (numberAt bytes (place + 2)) → ⊥ }
+numberBreaksRule bytes place = record { fault = faultAt 14 (place + 2); condition = NumberRule (getD bytes place 0) (numberAt bytes (place + 2)) → ⊥ }
 
 -- 13: "bytes after the last operation"; P is "first extra byte for 13"
 abbrev pub bytesAfter : List ℕ → ℕ → Row
-bytesAfter bytes place = record { number = 13; place = place; condition = place < length bytes }
+bytesAfter bytes place = record { fault = faultAt 13 place; condition = place < length bytes }
 
 -- "Fields are checked from the front: bytes present, then the rule."
 abbrev pub headOrder : List ℕ → List Row
@@ -66,7 +67,7 @@ headOrder bytes =
 -- "Of an operation all six bytes, then code, target, number."
 abbrev pub operationOrder : List ℕ → ℕ → List Row
 operationOrder bytes place =
-    endsBefore bytes (place + 6) ∷ unknownCode bytes place ∷ targetNotZero bytes place ∷ numberBreaksRule bytes place ∷ []
+    endsBefore bytes (place + operationSize) ∷ unknownCode bytes place ∷ targetNotZero bytes place ∷ numberBreaksRule bytes place ∷ []
 
 -- the operations from an index on, as many as are left, and what follows the last
 abbrev pub operationsOrder : List ℕ → ℕ → ℕ → List Row
@@ -77,8 +78,7 @@ operationsOrder bytes index (suc left) = operationOrder bytes (placeOf index) ++
 abbrev pub order : List ℕ → List Row
 order bytes = headOrder bytes ++ operationsOrder bytes 0 (numberAt bytes 12)
 
--- the number and the place of the first refusal whose condition holds: it holds, and none before it does
-abbrev pub FirstAt : List Row → ℕ → ℕ → Type 0
-FirstAt [] number place = ⊥
-FirstAt (r ∷ rest) number place =
-    ((number ≡ r .number) × (place ≡ r .place) × r .condition) ⊎ ((r .condition → ⊥) × FirstAt rest number place)
+-- the first fault whose condition holds: it holds, and none before it does
+abbrev pub FirstAt : List Row → Faulted → Type 0
+FirstAt [] f = ⊥
+FirstAt (r ∷ rest) f = ((f ≡ r .fault) × r .condition) ⊎ ((r .condition → ⊥) × FirstAt rest f)

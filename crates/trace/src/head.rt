@@ -1,5 +1,6 @@
 // The settings and the operation count: four numbers, each first there and then by its rule.
 use crate::Fault;
+use crate::MOST_OPERATIONS;
 use channel::PitType;
 use numbers::number_at;
 use refusal::Refusal;
@@ -53,7 +54,7 @@ pub fn read_head(bytes: &[u8]) -> Judged
         return refused(Refusal::TraceEnds, bytes.len());
     }
     let operations = number_at(bytes, 12);
-    if 4096 < operations {
+    if MOST_OPERATIONS < operations {
         return refused(Refusal::TooManyOperations, 12);
     }
     let model = PitType::numbered(model);

@@ -8,7 +8,8 @@ use crate::operation::place_of;
 use refusal::Refusal;
 ghost use mathlib.Core.Path.{_≡_};
 ghost use Rattle.trace.specs.Trace.{ending, operationsFrom, readTrace};
-ghost use Rattle.trace.specs.Answer.{soundness, faultJudged, headJudged, summary};
+ghost use Rattle.trace.specs.Answer.{headJudged, summary};
+ghost use Rattle.trace.specs.Inner.{faultJudged, soundness};
 
 // The first fault, if there is one.
 enum Found {

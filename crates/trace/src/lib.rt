@@ -13,6 +13,16 @@ pub use operation::operation_at;
 pub use operation::operation_in;
 use refusal::Refusal;
 
+// The settings and the operation count, four numbers.
+pub const HEAD_SIZE: usize = 4 * 4;
+
+// Code, target and number.
+pub const OPERATION_SIZE: usize = 1 + 1 + 4;
+
+pub const MOST_OPERATIONS: u32 = 4096;
+
+pub const LONGEST_TRACE: usize = HEAD_SIZE + OPERATION_SIZE * (MOST_OPERATIONS as usize);
+
 // Why a trace is refused, and where: at the place of the field that breaks its rule, at the whole length where bytes are missing, at the first byte
 // too many.
 pub struct Fault {

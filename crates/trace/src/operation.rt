@@ -1,13 +1,16 @@
 // One operation: six bytes, its rule, and what it asks for.
 use crate::Fault;
+use crate::HEAD_SIZE;
+use crate::OPERATION_SIZE;
 use crate::rule::Rule;
 use crate::rule::broken_rule;
 use numbers::number_at;
 use refusal::Refusal;
 use time::SystemTicks;
 ghost use mathlib.Core.Path.{_≡_};
-ghost use Rattle.trace.specs.Operation.{operationOf, NoneOfFour, fitted, placeOf, operationAt, operationIn};
+ghost use Rattle.trace.specs.Operation.{operationOf, fitted, placeOf, operationAt, operationIn};
 ghost use Rattle.trace.specs.Answer.{operationJudged};
+ghost use Rattle.trace.specs.Inner.{NoneOfFour};
 
 // Ports and channels are as the trace has them: a bad one is refused when it is run.
 pub enum Operation {
@@ -59,11 +62,11 @@ fn operation_of(code: u8, target: u8, number: u32) -> Operation
     }
 }
 
-// The operations stand one after another behind the 16 bytes of the head.
+// The operations stand one after another behind the head.
 pub(crate) fn place_of(index: u32) -> usize
     ensures { λ r. ⌜ r ≡ placeOf index ⌝ }
 {
-    16 + 6 * (index as usize)
+    HEAD_SIZE + OPERATION_SIZE * (index as usize)
 }
 
 fn refused(refusal: Refusal, place: usize) -> OperationJudged
@@ -77,7 +80,7 @@ pub fn operation_at(bytes: &[u8], index: u32) -> OperationJudged
     ensures { λ r. ⌜ operationJudged r ≡ operationAt (now (bytes .entry)) index ⌝ }
 {
     let place = place_of(index);
-    if bytes.len() < place + 6 {
+    if bytes.len() < place + OPERATION_SIZE {
         return refused(Refusal::TraceEnds, bytes.len());
     }
     let code = bytes[place];
@@ -98,7 +101,7 @@ pub fn operation_in(bytes: &[u8], index: u32) -> Operation
     ensures { λ r. ⌜ r ≡ operationIn (now (bytes .entry)) index ⌝ }
 {
     let place = place_of(index);
-    if bytes.len() < place + 6 {
+    if bytes.len() < place + OPERATION_SIZE {
         return Operation::Reset;
     }
     operation_of(bytes[place], bytes[place + 1], number_at(bytes, place + 2))

@@ -12,7 +12,7 @@ fn replay_file(name: &[u8]) {
     let mut input = io::large_buffer();
     let length = io::read_full(fd, &mut input);
     libc::close(fd);
-    let mut output = [0u8; 262272];
+    let mut output = [0u8; runner::TEXT_ROOM];
     let printed = runner::replay(&input[..length], &mut output);
     io::write_all(STDOUT_FILENO, &output[..printed]);
 }

@@ -1,9 +1,16 @@
 // The limits of a trace's form: each refusal number of a trace at its first and at its last possible place, the order of the tests, and the values that are
-// just sound. What is printed under a name is the replay of that trace; of the one with 4,096 operations only the end.
+// just sound. What is printed under a name is the replay of that trace; of the one with 4,096 operations only the end. Then every prefix of the trace on
+// standard input, which is case R.
+mod prefixes;
+
+use libc::STDIN_FILENO;
 use libc::STDOUT_FILENO;
 
 // The longest trace. The arrays have room for one byte more.
-const LONGEST: usize = 24592;
+const LONGEST: usize = trace::LONGEST_TRACE;
+
+// The room that a replay is lent: no replay prints more.
+pub(crate) const TEXT: usize = runner::TEXT_ROOM;
 
 // Divisor 12 on the 8253, or what a case is about.
 struct Settings {
@@ -75,7 +82,7 @@ fn say(text: &[u8]) {
 fn show_end(name: &[u8], trace: &[u8], length: usize, most: usize) {
     say(name);
     say(b": ");
-    let mut output = [0u8; 262272];
+    let mut output = [0u8; TEXT];
     if length <= trace.len() {
         let printed = runner::replay(&trace[0..length], &mut output);
         if most < printed {
@@ -89,7 +96,7 @@ fn show_end(name: &[u8], trace: &[u8], length: usize, most: usize) {
 }
 
 fn show(name: &[u8], trace: &[u8], length: usize) {
-    show_end(name, trace, length, 262272);
+    show_end(name, trace, length, TEXT);
 }
 
 fn sound_settings(operations: u32) -> Settings {
@@ -103,14 +110,14 @@ fn sound_settings(operations: u32) -> Settings {
 
 // No operation, and as many bytes as the case has.
 fn head(name: &[u8], s: Settings, length: usize) {
-    let mut trace = [0u8; 24593];
+    let mut trace = [0u8; LONGEST + 1];
     put_settings(&mut trace, s);
     show(name, &trace, length);
 }
 
 // One operation, and as many bytes as the case has.
 fn one(name: &[u8], o: Operation, length: usize) {
-    let mut trace = [0u8; 24593];
+    let mut trace = [0u8; LONGEST + 1];
     put_settings(&mut trace, sound_settings(1));
     put_operation(&mut trace, 0, o);
     show(name, &trace, length);
@@ -130,7 +137,7 @@ fn whole(name: &[u8], code: u8, target: u8, number: u32) {
 
 // 4,096 operations, the last of them the case's.
 fn last(name: &[u8], code: u8, target: u8, number: u32, length: usize) {
-    let mut trace = [0u8; 24593];
+    let mut trace = [0u8; LONGEST + 1];
     put_settings(&mut trace, sound_settings(4096));
     put_reads(&mut trace, 4095);
     put_operation(
@@ -265,8 +272,8 @@ fn last_places() {
     last(b"last code 10", 10, 0, 0, LONGEST);
     last(b"last target 1", 6, 1, 0, LONGEST);
     last(b"last number 2", 3, 0, 2, LONGEST);
-    last(b"last byte missing", 2, 0x40, 0, 24591);
-    last(b"a byte too many", 2, 0x40, 0, 24593);
+    last(b"last byte missing", 2, 0x40, 0, LONGEST - 1);
+    last(b"a byte too many", 2, 0x40, 0, LONGEST + 1);
 }
 
 fn main() {
@@ -275,4 +282,7 @@ fn main() {
     rules();
     when_run();
     last_places();
+    let mut input = io::buffer();
+    let length = io::read_full(STDIN_FILENO, &mut input);
+    prefixes::show_all(&input[..length]);
 }

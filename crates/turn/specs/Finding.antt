@@ -12,7 +12,6 @@ use Rattle.board.specs.declared.Answer.the-variants.{Refused, Byte}
 use Rattle.time.specs.declared.SystemTicks.{SystemTicks}
 use Rattle.ports.specs.declared.port.Port.{Port}
 use Rattle.ports.specs.declared.port.Port.the-variants as port
-use Rattle.ports.specs.Port.{portOf}
 use Rattle.turn.specs.declared.finding.Work.the-variants as work
 use Rattle.turn.specs.declared.finding.Turn.{Turn}
 use Rattle.turn.specs.declared.finding.Turn.the-variants.{OnChannel, Elapse, Reset, Untouched, Say}
@@ -40,7 +39,7 @@ writeTurn owing port.Unknown byte = refuse PortUnknown
 -- "The command port reads 0."
 abbrev pub readTurn : Port → Turn
 readTurn (port.Data n) = OnChannel n work.Read
-readTurn port.Command = Say (Byte 0)
+readTurn port.Command = Say (Byte (record { byte = 0 }))
 readTurn port.Unknown = refuse PortUnknown
 
 -- 2 "channel above 2"

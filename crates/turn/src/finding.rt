@@ -1,6 +1,7 @@
 // An operation with its port or channel found. What is refused without a look at the board is refused here, and what is refused while ticks are owed: of the board
 // only that is asked. Every call, of whatever form, is found by these functions.
 use board::Answer;
+use board::PortRead;
 use channel::ControlWord;
 use control::Command;
 use ports::port::Port;
@@ -87,7 +88,7 @@ pub fn read_turn(port: u16) -> Turn
     let known = port_of(port);
     match known {
         Port::Data(n) => Turn::OnChannel(n as u8, Work::Read),
-        Port::Command => Turn::Say(Answer::Byte(0)),
+        Port::Command => Turn::Say(Answer::Byte(PortRead { byte: 0 })),
         Port::Unknown => refuse(Refusal::PortUnknown),
     }
 }

@@ -2,6 +2,7 @@
 // same work as arms of its loop.
 use crate::finding::Work;
 use board::Answer;
+use board::PortRead;
 use channel::Channel;
 use channel::PitType;
 use ports::Settled;
@@ -32,7 +33,7 @@ pub fn work_on(
             let got = latch::read_byte(c);
             let channel = got.channel;
             Settled {
-                answer: Answer::Byte(got.byte),
+                answer: Answer::Byte(PortRead { byte: got.byte }),
                 channel,
             }
         }

@@ -2,6 +2,7 @@
 //!
 //!     bench [REPETITIONS]           every measurement; 61 repetitions where none are asked for
 //!     bench calls [REPETITIONS]     one call at a time, through the old archive, today's and the original
+//!     bench loop [REPETITIONS]      whole traces, through the old archive, today's and the original
 //!     bench doors [N] [SEED]        N random calls through the old archive and today's; 10,000,000 where none are asked for
 //!     bench only NAME TURNS SIDE    one workload on one side (`ours` or `original`) some times over, for callgrind
 
@@ -26,33 +27,38 @@ const SEED: u64 = 1;
 
 type Whole = fn(&[u8], &mut [u8]) -> Option<usize>;
 
-/// A whole trace through both sides, whose bytes must be the same.
-fn whole(workload: &Workload, repetitions: usize, mine: Whole, theirs: Whole) -> [f64; 2] {
+/// A whole trace through some sides, whose bytes must be the same.
+fn whole<const N: usize>(workload: &Workload, repetitions: usize, sides: [Whole; N]) -> [f64; N] {
     let trace = &workload.trace[..];
-    let (mut a, mut b) = (vec![0xA5; ROOM], vec![0xA5; ROOM]);
-    let lengths = (mine(trace, &mut a), theirs(trace, &mut b));
-    assert!(lengths.0.is_some() && lengths.0 == lengths.1 && a == b, "{}: the two sides differ", workload.name);
-    let mut one = || {
-        black_box(mine(black_box(trace), &mut a));
-    };
-    let mut other = || {
-        black_box(theirs(black_box(trace), &mut b));
-    };
-    medians(workload.operations, repetitions, [&mut one, &mut other])
+    let mut outs = sides.map(|side| {
+        let mut out = vec![0xA5; ROOM];
+        assert!(side(trace, &mut out).is_some(), "{}: a sound trace", workload.name);
+        out
+    });
+    assert!(outs.windows(2).all(|two| two[0] == two[1]), "{}: the sides differ", workload.name);
+    let mut n = 0;
+    let mut runs = outs.each_mut().map(|out| {
+        let side = sides[n];
+        n += 1;
+        move || {
+            black_box(side(black_box(trace), out));
+        }
+    });
+    medians(workload.operations, repetitions, runs.each_mut().map(|run| run as &mut dyn FnMut()))
 }
 
 fn everything(repetitions: usize) {
     head("our runner owns the board: answers of a whole trace");
     for workload in workloads::all() {
-        print_row(workload.name, whole(&workload, repetitions, ours::answers, baseline::answers));
+        print_row(workload.name, whole(&workload, repetitions, [ours::answers, baseline::answers]));
     }
     head("the same with lines printed");
     for workload in workloads::growing() {
-        print_row(workload.name, whole(&workload, repetitions, ours::replay, baseline::replay));
+        print_row(workload.name, whole(&workload, repetitions, [ours::replay, baseline::replay]));
     }
     head("growth: answers of a mixed trace");
     for workload in workloads::growing() {
-        print_row(workload.name, whole(&workload, repetitions, ours::answers, baseline::answers));
+        print_row(workload.name, whole(&workload, repetitions, [ours::answers, baseline::answers]));
     }
     head("a run of 65,536 ticks, worked off in one call, beside the original's run; channel 0 counts");
     for (name, row) in ticks::rows(repetitions) {
@@ -69,6 +75,13 @@ fn two_archives(repetitions: usize) {
     two_head("one call at a time, our board in bytes, through two archives");
     for single in workloads::singles() {
         print_two(single.all.name, calls::of_two(&single, repetitions));
+    }
+}
+
+fn two_loops(repetitions: usize) {
+    two_head("the runner owns the board: answers of a whole trace, through two archives");
+    for workload in workloads::all() {
+        print_two(workload.name, whole(&workload, repetitions, [ours::old_answers, ours::answers, baseline::answers]));
     }
 }
 
@@ -97,6 +110,8 @@ fn main() {
         [] => Some(everything(REPETITIONS)),
         ["calls"] => Some(two_archives(REPETITIONS)),
         ["calls", n] => n.parse().ok().map(two_archives),
+        ["loop"] => Some(two_loops(REPETITIONS)),
+        ["loop", n] => n.parse().ok().map(two_loops),
         ["doors"] => Some(doors::run(CALLS, SEED)),
         ["doors", n] => n.parse().ok().map(|calls| doors::run(calls, SEED)),
         ["doors", n, seed] => n.parse().ok().zip(seed.parse().ok()).map(|(calls, seed)| doors::run(calls, seed)),
@@ -105,7 +120,7 @@ fn main() {
         _ => None,
     };
     if known.is_none() {
-        eprintln!("./bench [REPETITIONS], calls OLD_DIR [REPETITIONS], doors OLD_DIR [N] [SEED], or only NAME TURNS ours|original");
+        eprintln!("./bench [REPETITIONS], calls OLD_DIR [REPETITIONS], loop OLD_DIR [REPETITIONS], doors OLD_DIR [N] [SEED], or only NAME TURNS ours|original");
         std::process::exit(2);
     }
 }

@@ -22,7 +22,7 @@ type BoardOperation = unsafe extern "C" fn(
 type Whole =
     unsafe extern "C" fn(trace: *const u8, trace_len: usize, out: *mut u8, out_len: usize, answer: *mut u8, answer_len: usize) -> u32;
 
-/// The functions as docs/ENCODING.md writes them, and two of the old archive's as ./bench names them.
+/// The functions as docs/ENCODING.md writes them, and three of the old archive's as ./bench names them.
 mod c {
     extern "C" {
         pub fn pit_board_new(board: *mut u8, board_len: usize, model: u8, divisor: u32) -> u32;
@@ -40,6 +40,7 @@ mod c {
         ) -> u32;
         pub fn pit_replay(trace: *const u8, trace_len: usize, out: *mut u8, out_len: usize, answer: *mut u8, answer_len: usize) -> u32;
         pub fn pit_answers(trace: *const u8, trace_len: usize, out: *mut u8, out_len: usize, answer: *mut u8, answer_len: usize) -> u32;
+        pub fn old_pit_answers(trace: *const u8, trace_len: usize, out: *mut u8, out_len: usize, answer: *mut u8, answer_len: usize) -> u32;
         pub fn old_pit_board_new(board: *mut u8, board_len: usize, model: u8, divisor: u32) -> u32;
         pub fn old_pit_board_operation(
             board: *mut u8,
@@ -99,6 +100,11 @@ fn whole(call: Whole, trace: &[u8], out: &mut [u8]) -> Option<usize> {
 /// The answers of a trace at the front of `out`, and how many bytes they are.
 pub fn answers(trace: &[u8], out: &mut [u8]) -> Option<usize> {
     whole(c::pit_answers, trace, out)
+}
+
+/// The same through the old archive.
+pub fn old_answers(trace: &[u8], out: &mut [u8]) -> Option<usize> {
+    whole(c::old_pit_answers, trace, out)
 }
 
 /// What a replay of a trace prints at the front of `out`, and how many bytes that is.

@@ -76,9 +76,9 @@ fn main() -> ExitCode {
 /// Does what the words ask for, and hands back whether nothing differs.
 fn done(words: &[&str]) -> Result<bool, String> {
     match *words {
-        ["freeze", path] => samples::write("frozen", path).map(|()| true),
-        ["freeze-boards", path] => samples::write("frozen_boards", path).map(|()| true),
-        ["freeze-traces", path] => samples::write("frozen_traces", path).map(|()| true),
+        ["freeze", path] => samples::write("channels", path).map(|()| true),
+        ["freeze-boards", path] => samples::write("boards", path).map(|()| true),
+        ["freeze-traces", path] => samples::write("traces", path).map(|()| true),
         ["replay", path] => freeze::replay(path).map(|differ| differ == 0),
         ["replay-boards", path] => freeze_boards::replay(path).map(|differ| differ == 0),
         ["replay-traces", path] => freeze_traces::replay(path).map(|differ| differ == 0),

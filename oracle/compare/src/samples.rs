@@ -4,13 +4,13 @@ use crate::{freeze, freeze_boards, freeze_traces};
 use std::fs;
 use std::path::Path;
 
-const CRATES: &str = concat!(env!("CARGO_MANIFEST_DIR"), "/../../crates");
+const ROOT: &str = concat!(env!("CARGO_MANIFEST_DIR"), "/../..");
+const FOLDER: &str = "crates/frozen/data";
 
-/// The crate that holds a sample, and what makes its bytes.
+/// The name of a sample's file, and what makes its bytes.
 type Sample = (&'static str, fn() -> Result<Vec<u8>, String>);
 
-const SAMPLES: [Sample; 3] =
-    [("frozen", freeze::answered), ("frozen_boards", freeze_boards::answered), ("frozen_traces", freeze_traces::answered)];
+const SAMPLES: [Sample; 3] = [("channels", freeze::answered), ("boards", freeze_boards::answered), ("traces", freeze_traces::answered)];
 
 /// Writes one sample to a file.
 pub fn write(name: &str, path: &str) -> Result<(), String> {
@@ -25,19 +25,19 @@ pub fn write(name: &str, path: &str) -> Result<(), String> {
 pub fn stand() -> Result<u64, String> {
     let mut differ = 0;
     for (name, make) in SAMPLES {
-        let path = Path::new(CRATES).join(name).join("stdin");
+        let path = Path::new(ROOT).join(FOLDER).join(name);
         if !path.exists() {
-            println!("crates/{name}/stdin IS NOT THERE");
+            println!("{FOLDER}/{name} IS NOT THERE");
             differ += 1;
             continue;
         }
-        let held = fs::read(&path).map_err(|error| format!("crates/{name}/stdin: {error}"))?;
+        let held = fs::read(&path).map_err(|error| format!("{FOLDER}/{name}: {error}"))?;
         let says = match make() {
             Ok(bytes) if bytes == held => "has the original's answers".to_string(),
             Ok(_) => "HAS NOT the original's answers".to_string(),
             Err(fault) => format!("CANNOT BE MADE: {fault}"),
         };
-        println!("the sample crates/{name} {says}");
+        println!("the sample {FOLDER}/{name} {says}");
         differ += u64::from(!says.starts_with("has"));
     }
     Ok(differ)

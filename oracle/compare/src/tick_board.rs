@@ -1,4 +1,4 @@
-//! The board's ticks by docs/TICK.md, section 3: one tick of each channel with the events of its outputs, and owed ticks worked off.
+//! The board's ticks by docs/TICK.md, "The board": one tick of each channel with the events of its outputs, and owed ticks worked off.
 
 use crate::tick_channel::Channel;
 use crate::tick_rules::Departures;

@@ -1,4 +1,4 @@
-//! What a tick goes by, taken out of a record and put back: docs/TICK.md, section 1, its words *triggered*, *runs*, *enter*, *age* and *counts*.
+//! What a tick goes by, taken out of a record and put back: docs/TICK.md, "One tick of one channel", its words *triggered*, *runs*, *enter*, *age* and *counts*.
 
 use crate::fields::*;
 

@@ -1,6 +1,6 @@
-//! One tick of one channel by docs/TICK.md, table by table, and the thirteen rows of its section 6, R1 to R13, in which pit.rs's own tick does otherwise: each can be put in
-//! alone. Each rule stands under its sentence there; nothing is shared with our code or with the original's functions. With all thirteen put in it must be pit.rs's tick on every
-//! record, with none ours.
+//! One tick of one channel by docs/TICK.md, table by table, and the thirteen entries R1 to R13 of docs/DIFFERENCES.md, in which pit.rs's own
+//! tick does otherwise: each can be put in alone. Each rule stands under its sentence there; nothing is shared with our code or with the
+//! original's functions. With all thirteen put in it must be pit.rs's tick on every record, with none ours.
 
 use crate::tick_channel::{Channel, State};
 use original::pit::record::Record;

@@ -6,10 +6,10 @@ use Rattle.frozen.proofs.replay.Statement.{statement}
 use Rattle.frozen.proofs.replay.Tie as tie
 
 abbrev Inv-loop : tie.InvT-loop
-Inv-loop cases₀ differing₀ cases differing = (differing ≤ cases) × (cases ≤ 1000000)
+Inv-loop file kind cases₀ differing₀ cases differing = (differing ≤ cases) × (cases ≤ 1000000)
 
 abbrev μ-loop : tie.MeasureT-loop
-μ-loop cases₀ differing₀ cases differing = 1000000 - cases
+μ-loop file kind cases₀ differing₀ cases differing = 1000000 - cases
 
 pub replay-spec : {M : Type 1} → statement M
 replay-spec =

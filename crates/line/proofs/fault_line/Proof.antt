@@ -1,4 +1,5 @@
 -- `line::fault_line` meets its contract. Assumes nothing.
+use Prim.Native.Nat.{_<_}
 use native.Mathlib.Omega.{arith}
 use lib.ListN.{length-append, replicate}
 use borrow.Author.Needs.{needs}
@@ -22,31 +23,20 @@ returns c =
     let first = second .before .before .before .before in
     let start = first .before .before .before in
     let n = second .before .number in
-    let at = start .args .at in
+    let at = start .args .fault .place in
+    -- owning the fault tells that its place fits
+    let fits : at < 18446744073709551616 = start .good .0 .1 .1 .1 .0 .1 in
     let words = wrote (ascii "trace refused ") (replicate lineRoom 0) 0 _ _ (first .put .ensures) in
     let number = and-then words (decimal (n .result)) _ _ (second .put-decimal .ensures) in
     let word = and-then number (ascii " at ") _ _ (third .put2 .ensures) in
     let place = and-then word (decimal at) _ _ (fourth .put-decimal2 .ensures) in
     let whole = and-then place newline _ _ (fifth .put3 .ensures) in
-    rw (← n .ensures) (line-text whole (simp length-append (omega (arith, decimal-u8 (n .result) (omega arith), decimal-u64 at (omega arith)))))
+    rw (← n .ensures) (line-text whole (simp length-append (omega (arith, decimal-u8 (n .result) (omega arith), decimal-u64 at fits))))
 
 pub fault-line-spec : {M : Type 1} → statement M
 fault-line-spec =
     tie.close
     (tie.spec
-    (λ c. search needs)
-    (λ c. search needs)
-    (λ c κs. search needs)
-    (λ c. search needs)
-    (λ c κs. search needs)
-    (λ c. search needs)
-    (λ c κs. search needs)
-    (λ c. search needs)
-    (λ c. search needs)
-    (λ c κs. search needs)
-    (λ c. search needs)
-    (λ c κs. search needs)
-    (λ c. search needs)
-    (λ c. search needs)
-    (λ c κs. search needs)
-    returns)
+    (λ c. search needs) (λ c. search needs) (λ c κs. search needs) (λ c. search needs) (λ c κs. search needs) (λ c. search needs)
+    (λ c κs. search needs) (λ c. search needs) (λ c. search needs) (λ c κs. search needs) (λ c. search needs) (λ c κs. search needs)
+    (λ c. search needs) (λ c. search needs) (λ c κs. search needs) returns)

@@ -13,7 +13,5 @@ pub model-name-spec : {M : Type 1} → statement M
 model-name-spec =
     tie.close
     (tie.spec
-    (λ c. search needs)
-    (λ c. search needs)
-    returns
+    (λ c. search needs) (λ c. search needs) returns
     returns-2)

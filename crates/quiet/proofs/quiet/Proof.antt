@@ -1,7 +1,7 @@
 -- `quiet::quiet` meets its contract. Assumes nothing.
 use mathlib.Core.Path.{sym, _∙_}
 use borrow.Author.Needs.{needs}
-use Rattle.quiet.specs.Quiet.{quiet}
+use Rattle.quiet.specs.Inner.{quiet}
 use Rattle.quiet.proofs.quiet.Statement.{statement}
 use Rattle.quiet.proofs.quiet.Tie as tie
 

@@ -1,7 +1,7 @@
 -- `quiet::skipped` meets its contract. Assumes nothing.
 use mathlib.Core.Path.{sym, _∙_}
 use borrow.Author.Needs.{needs}
-use Rattle.quiet.specs.Quiet.{skip}
+use Rattle.quiet.specs.Inner.{skip}
 use Rattle.quiet.proofs.Fields.{aged-in-place}
 use Rattle.quiet.proofs.skipped.Statement.{statement}
 use Rattle.quiet.proofs.skipped.Tie as tie

@@ -1,13 +1,13 @@
 -- `quiet::to_zero` meets its contract. Assumes nothing.
 use borrow.Author.Needs.{needs}
 use borrow.Author.Tests.{eq-eqb, ne-eqb}
-use Rattle.quiet.specs.Quiet.{toZero}
+use Rattle.quiet.specs.Inner.{toZero}
 use Rattle.quiet.proofs.to_zero.Statement.{statement}
 use Rattle.quiet.proofs.to_zero.Tie as tie
 
 returns : tie.Need-returns
 unfolding toZero
-returns c = simp (c .round .ensures, eq-eqb _ _ (c .before .if1 .taken))
+returns c = simp (c .radix-counts .ensures, eq-eqb _ _ (c .before .if1 .taken))
 
 returns-2 : tie.Need-returns-2
 unfolding toZero

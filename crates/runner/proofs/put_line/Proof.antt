@@ -19,6 +19,4 @@ put-line-spec =
     (tie.spec
     array-share-prefix-bytes
     slice-aggregate-put
-    (λ c κs. search needs)
-    (λ c. search needs)
-    (λ c. search needs))
+    (λ c κs. search needs) (λ c. search needs) (λ c. search needs))

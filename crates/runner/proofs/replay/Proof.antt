@@ -3,11 +3,10 @@ use mathlib.Core.Path.{sym, ap, _∙_}
 use native.Mathlib.Omega.{arith}
 use denote.Ref.{now}
 use borrow.Author.Needs.{needs}
-use Rattle.refusal.specs.Refusal.{refusalNumber}
 use Rattle.line.specs.Lines.{faultLine}
 use Rattle.line.proofs.Back.{line-fits}
 use Rattle.text.proofs.Puts.{wrote}
-use Rattle.trace.specs.Answer.{headJudged}
+use Rattle.trace.specs.Answer.{faultOf, headJudged}
 use Rattle.trace.proofs.Sound.{judged-sound, judged-refused}
 use Rattle.runner.specs.Printed.{printed, Prints}
 use Rattle.runner.proofs.Whole.{line-put, prints, prints-counts}
@@ -26,14 +25,14 @@ replay-sound-requires c κs =
 returns : tie.Need-returns
 unfolding printed
 returns c =
-    let a = c .before .before .before .before .before .before .before .before .args in
-    let told = c .before .before .before .before .judged .given in
-    let fault = told .0 .0 in
-    let line = c .before .before .line-of in
-    let text = faultLine (refusalNumber (fault .refusal)) (fault .place) in
-    let all = prints (wrote text (now (a .out)) 0 _ _ (line-put _ text _ _ _ _ (line .ensures .0) (c .put-line .ensures))) (omega (arith, line .ensures .1)) in (
-      rw (judged-refused (now (a .trace)) (refusalNumber (fault .refusal)) (fault .place) (sym (c .before .before .before .before .before .before .judge .ensures) ∙ ap headJudged (told .1)))
-          all,
+    let line = c .before .before in
+    let told = line .before .before in
+    let judged = told .before .before in
+    let a = judged .before .before .args in
+    let fault = faultOf (told .judged .given .0 .0) in
+    let text = faultLine fault in
+    let all = prints (wrote text (now (a .out)) 0 _ _ (line-put _ text _ _ _ _ (line .line-of .ensures .0) (c .put-line .ensures))) (omega (arith, line .line-of .ensures .1)) in (
+      rw (judged-refused (now (a .trace)) fault (sym (judged .judge .ensures) ∙ ap headJudged (told .judged .given .1))) all,
       prints-counts text (now (a .out)) _ _ all,
     )
 
@@ -51,11 +50,7 @@ pub replay-spec : {M : Type 1} → statement M
 replay-spec =
     tie.close
     (tie.spec
-    (λ c κs. search needs)
-    (λ c. search needs)
-    (λ c κs. search needs)
-    put-line-requires
-    (λ c. search needs)
-    replay-sound-requires
+    (λ c κs. search needs) (λ c. search needs) (λ c κs. search needs) put-line-requires
+    (λ c. search needs) replay-sound-requires
     returns
     returns-2)

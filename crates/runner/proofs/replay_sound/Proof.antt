@@ -8,10 +8,9 @@ use Rattle.board.specs.Outcome.{Outcome}
 use Rattle.line.specs.Lines.{headLine, endLine}
 use Rattle.line.proofs.Back.{line-fits}
 use Rattle.text.proofs.Puts.{wrote, and-then, wrote-place, put-length}
-use Rattle.trace.specs.Trace.{operationsFrom}
-use Rattle.trace.specs.Answer.{operationsOf}
 use Rattle.runner.specs.declared.Form.the-variants.{Lines}
 use Rattle.runner.specs.Printed.{toldFrom}
+use Rattle.runner.specs.Inner.{toTell}
 use Rattle.runner.proofs.Turns.{as-many-as}
 use Rattle.runner.proofs.Whole.{new-board, line-put, prints}
 use Rattle.runner.proofs.replay_sound.Statement.{statement}
@@ -22,11 +21,12 @@ put-line-requires c κs = line-fits _ _ (c .before .line-of .ensures .0)
 
 tell-requires : tie.Need-tell-requires
 tell-requires c κs =
-    let start = c .before .before .before .before .before .before .before .before .before .before in
+    let put = c .before .before .before in
+    let head = put .before .before .line-of in
+    let start = put .before .before .before .before .before .before .before in
     let out = now (start .args .out) in
-    let head = c .before .before .before .before .before .line-of in
     let line = headLine (start .args .head .model) (start .args .head .divisor) in
-    let first = line-put _ line out 0 _ _ (head .ensures .0) (c .before .before .before .put-line .ensures) in
+    let first = line-put _ line out 0 _ _ (head .ensures .0) (put .put-line .ensures) in
     let same = put-length line out 0 _ _ first in
     let place = wrote-place (wrote line out 0 _ _ first) (omega (arith, start .pre .1 .1, head .ensures .1)) in
     (start .pre .0, (omega (arith, start .pre .1 .0), omega (arith, start .pre .1 .1, same, place, head .ensures .1)))
@@ -34,42 +34,45 @@ tell-requires c κs =
 put-line-requires-2 : tie.Need-put-line-requires-2
 put-line-requires-2 c κs = line-fits _ _ (c .before .line-of2 .ensures .0)
 
-abbrev start : tie.After-slice-known4 → tie.Start
-start c = c .before .before .before .before .before .before .before .before .before .before .before .before .before .before .before .before .before .before
+-- the three puts, the last first
+abbrev ended : tie.After-slice-known4 → tie.After-put-line2
+ended c = c .before .before
+
+abbrev told : tie.After-slice-known4 → tie.After-tell
+told c = ended c .before .before .before .before .before
+
+abbrev headed : tie.After-slice-known4 → tie.After-put-line
+headed c = told c .before .before .before .before
 
 same-length : tie.Need-same-length
 same-length c =
-    put-length _ _ _ _ _ (c .before .before .put-line2 .ensures) ∙ put-length _ _ _ _ _ (c .before .before .before .before .before .before .before .tell .ensures .0)
-    ∙ put-length _ _ _ _ _ (c .before .before .before .before .before .before .before .before .before .before .before .put-line .ensures)
+    put-length _ _ _ _ _ (ended c .put-line2 .ensures) ∙ put-length _ _ _ _ _ (told c .tell .ensures .told) ∙ put-length _ _ _ _ _ (headed c .put-line .ensures)
 
 returns : tie.Need-returns
 returns c =
-    let a = start c .args in
+    let head = headed c .before .before in
+    let made = head .before .before .new in
+    let start = head .before .before .before .before .before in
+    let lines = told c .tell in
+    let last = ended c .before .before .line-of2 in
+    let a = start .args in
     let out = now (a .out) in
-    let operations = operationsOf (operationsFrom (now (a .trace)) 0 (a .head .operations)) in
-    let head = c .before .before .before .before .before .before .before .before .before .before .before .before .before .line-of in
-    let lines = c .before .before .before .before .before .before .before .tell in
-    let last = c .before .before .before .before .line-of2 in
-    let made = c .before .before .before .before .before .before .before .before .before .before .before .before .before .before .before .new in
     let board = ap (λ (o : Outcome). o .board) (made .ensures) ∙ new-board (a .head .model) (a .head .divisor) in
-    let many = as-many-as (now (a .trace)) 0 (a .head .operations) (start c .pre .0) in
+    let many = as-many-as (now (a .trace)) 0 (a .head .operations) (start .pre .0) in
     let head-text = headLine (a .head .model) (a .head .divisor) in
-    let lines-text = toldFrom Lines (made .result .board) 0 operations in
+    let lines-text = toldFrom Lines (made .result .board) 0 (toTell (now (a .trace)) 0 (a .head .operations)) in
     let end-text = endLine (a .head .operations) in
-    let first = wrote head-text out 0 _ _ (line-put _ head-text out 0 _ _ (head .ensures .0) (c .before .before .before .before .before .before .before .before .before .before .before .put-line .ensures)) in
-    let second = and-then first lines-text _ _ (lines .ensures .0) in
-    let third = and-then second end-text _ _ (line-put _ end-text _ _ _ _ (last .ensures .0) (c .before .before .put-line2 .ensures)) in
-    rw⁻¹ board (rw many (prints third (simp length-append (omega (arith, start c .pre .1 .1, head .ensures .1, lines .ensures .1, last .ensures .1)))))
+    let first = wrote head-text out 0 _ _ (line-put _ head-text out 0 _ _ (head .line-of .ensures .0) (headed c .put-line .ensures)) in
+    let second = and-then first lines-text _ _ (lines .ensures .told) in
+    let third = and-then second end-text _ _ (line-put _ end-text _ _ _ _ (last .ensures .0) (ended c .put-line2 .ensures)) in
+    rw⁻¹ board (rw many (prints third (simp length-append (omega (arith, start .pre .1 .1, head .line-of .ensures .1, lines .ensures .short, last .ensures .1)))))
 
 pub replay-sound-spec : {M : Type 1} → statement M
 replay-sound-spec =
     tie.close
     (tie.spec
-    (λ c κs. search needs)
-    (λ c κs. search needs)
-    put-line-requires
+    (λ c κs. search needs) (λ c κs. search needs) put-line-requires
     tell-requires
-    (λ c κs. search needs)
-    put-line-requires-2
+    (λ c κs. search needs) put-line-requires-2
     same-length
     returns)

@@ -12,7 +12,7 @@ use Rattle.board.specs.Answer.{replyOf}
 use Rattle.text.specs.Put.{put}
 use Rattle.line.proofs.Back.{line-fits, line-back}
 use Rattle.line.proofs.FirstSix.{first-six}
-use Rattle.runner.specs.Answers.{answerBytes}
+use Rattle.runner.specs.Answers.{traceAnswerSize, traceAnswerBytes}
 use Rattle.runner.proofs.say.Statement.{statement}
 use Rattle.runner.proofs.say.Tie as tie
 
@@ -26,37 +26,24 @@ returns c =
     let a = c .before .before .before .before .before .before .before .before .args in
     let same = first-six (a .index) (replyOf (a .answer)) (a .t6) (a .left .0) in
     let said = c .before .before .put-line .ensures ∙ ap (λ (text : List ℕ). put text (now (a .out)) (a .place)) (line-back _ _ (line .ensures .0) ∙ same) in
-    rw (c .before .before .before .before .before .enum-told .given .1) (said, rw⁻¹ same (line .ensures .1))
+    rw (c .before .before .before .before .before .enum-told .given .1) record { told = said; short = rw⁻¹ same (line .ensures .1) }
 
-answer-length : (reply : Reply Value) (events : List ℕ) (left : ℕ) → length (answerBytes reply events left) ≤ 16
-unfolding answerBytes
+answer-length : (reply : Reply Value) (events : List ℕ) (left : ℕ) → length (traceAnswerBytes reply events left) ≤ traceAnswerSize
+unfolding traceAnswerBytes
 answer-length reply events left = omega arith
 
 returns-2 : tie.Need-returns-2
 returns-2 c =
-    let bytes = c .before .before .before .before .before .answer-bytes in
+    let bytes = c .before .before .before .before .before .trace-answer-bytes in
     let a = c .before .before .before .before .before .before .before .before .before .args in
     let said = c .before .before .put .ensures ∙ ap (λ (text : List ℕ). put text (now (a .out)) (a .place)) (bytes .ensures) in
-    rw (c .before .before .before .before .before .before .enum-told2 .given .1) (said, answer-length (replyOf (a .answer)) (a .t6) (a .left .0))
+    rw (c .before .before .before .before .before .before .enum-told2 .given .1) record { told = said; short = answer-length (replyOf (a .answer)) (a .t6) (a .left .0) }
 
 pub say-spec : {M : Type 1} → statement M
 say-spec =
     tie.close
     (tie.spec
-    (λ c. search needs)
-    (λ c. search needs)
-    (λ c. search needs)
-    (λ c. search needs)
-    (λ c. search needs)
-    (λ c. search needs)
-    (λ c. search needs)
-    (λ c κs. search needs)
-    put-line-requires
-    (λ c. search needs)
-    (λ c κs. search needs)
-    (λ c. search needs)
-    (λ c κs. search needs)
-    (λ c. search needs)
-    returns
-    (λ c. search needs)
-    returns-2)
+    (λ c. search needs) (λ c. search needs) (λ c. search needs) (λ c. search needs) (λ c. search needs) (λ c. search needs)
+    (λ c. search needs) (λ c κs. search needs) put-line-requires
+    (λ c. search needs) (λ c κs. search needs) (λ c. search needs) (λ c κs. search needs) (λ c. search needs) returns
+    (λ c. search needs) returns-2)

@@ -1,4 +1,6 @@
 -- `runner::tell` meets its contract. Assumes nothing.
+--
+-- An arm's proof begins at the arm's own place, which is named once, and goes by `works`, of work on a channel, or by `next`, of any other turn.
 use Prim.Native.Nat.{ℕ, _+_, _-_, _≤_, _<_}
 use mathlib.Core.List.{List}
 use mathlib.Core.Path.{_≡_, refl, sym, ap, subst, _∙_}
@@ -7,35 +9,30 @@ use denote.Ref.{now}
 use lib.ListN.{length, take, length-map}
 use borrow.Author.Needs.{needs}
 use Rattle.channel.specs.declared.Channel.{Channel}
+use Rattle.latch.specs.declared.reading.ByteRead.{ByteRead}
 use Rattle.board.specs.declared.Board.{Board}
 use Rattle.board.specs.Board.{withChannel}
 use Rattle.board.specs.Outcome.{Outcome, done, accept}
 use Rattle.board.specs.Making.{restored}
-use Rattle.text.specs.Put.{put, answered}
-use Rattle.trace.specs.Trace.{operationsFrom}
-use Rattle.trace.specs.Answer.{operationsOf}
-use Rattle.trace.proofs.Found.{in-sound}
-use Rattle.recorded.specs.Made.{inSix}
-use Rattle.turn.specs.declared.finding.Work.{Work}
-use Rattle.turn.specs.declared.finding.Turn.the-variants.{OnChannel}
-use Rattle.turn.specs.Inner.{OnBoard}
-use Rattle.turn.specs.Turn.{withEvents, workOn}
-use Rattle.recorded.specs.Asked.{twoLent}
-use Rattle.recorded.specs.Inner.{turnedInSix}
-use Rattle.recorded.proofs.Room.{latch-unheard, nothing-unheard}
-use Rattle.recorded.proofs.Recorded.{turn-made}
-use Rattle.latch.specs.declared.reading.ByteRead.{ByteRead}
 use Rattle.ports.specs.Settle.{settle}
 use Rattle.ports.specs.Reads.{readInto}
+use Rattle.turn.specs.declared.finding.Work.{Work}
+use Rattle.turn.specs.declared.finding.Turn.the-variants.{OnChannel}
+use Rattle.turn.specs.Turn.{withEvents, workOn}
+use Rattle.turn.specs.Inner.{OnBoard}
+use Rattle.recorded.specs.Asked.{twoLent}
+use Rattle.recorded.specs.Made.{inSix}
+use Rattle.recorded.specs.Inner.{turnedInSix}
+use Rattle.recorded.proofs.Room.{latch-unheard, nothing-unheard}
 use Rattle.runner.specs.Printed.{roomOf, saidOf}
+use Rattle.runner.specs.Inner.{toTell, Puts}
 use Rattle.runner.proofs.Ticks.{three-left, all-quiet, some-made}
-use Rattle.runner.proofs.Turns.{Running, begun, goes-on, ended}
+use Rattle.runner.proofs.Turns.{Running, begun, turn-at-made, goes-on, ended}
 use Rattle.runner.proofs.tell.Statement.{statement}
 use Rattle.runner.proofs.tell.Tie as tie
 
 abbrev Inv-loop : tie.InvT-loop
-Inv-loop form trace first number out₀ place b₀ at₀ j₀ out b at j =
-    (j ≤ number) × Running form b₀ first (operationsOf (operationsFrom trace first number)) out₀ place b at j out
+Inv-loop form trace first number out₀ place b₀ at₀ j₀ out b at j = (j ≤ number) × Running form b₀ first (toTell trace first number) out₀ place b at j out
 
 abbrev μ-loop : tie.MeasureT-loop
 μ-loop form trace first number out₀ place b₀ at₀ j₀ out b at j = number - j
@@ -43,149 +40,239 @@ abbrev μ-loop : tie.MeasureT-loop
 loop-holds : tie.Need-loop-holds Inv-loop μ-loop
 loop-holds c = let a = c .before .before .args in (omega arith, begun (a .form) (a .start) (a .first) _ (now (a .out)) (a .place))
 
-abbrev Turned : Type 0
-Turned = tie.After-turn-of Inv-loop μ-loop
+-- where a turn is found
+abbrev Found : Type 0
+Found = tie.After-turn-at Inv-loop μ-loop
 
-abbrev start : (t : Turned) → tie.Start Inv-loop μ-loop
-start t = t .before .before .before .before .before .before .before .before
+abbrev turn : Found → tie.At-loop Inv-loop μ-loop
+turn t = t .before .before .before .before
 
-abbrev turn : (t : Turned) → tie.At-loop Inv-loop μ-loop
-turn t = t .before .before .before .before .before
+abbrev start : Found → tie.Start Inv-loop μ-loop
+start t = turn t .before .before .before
 
--- the turn's outcome, and what is said of it, carry the loop on
-next : (t : Turned) (outcome : Outcome) → turnedInSix (turn t .loop .b) (t .turn-of .result) ≡ outcome → (at₁ : ℕ) (out₁ : List ℕ)
-    → (answered at₁ out₁ ≡ put (saidOf (start t .args .form) (start t .args .first + turn t .loop .j) outcome) (turn t .loop .out) (turn t .loop .at))
-    × (length (saidOf (start t .args .form) (start t .args .first + turn t .loop .j) outcome) ≤ roomOf (start t .args .form))
-    → Inv-loop (start t .args .form) (now (start t .args .trace)) (start t .args .first) (start t .args .number) (now (start t .args .out)) (start t .args .place) (start t .args .start) (start t .args .place) 0 out₁ (outcome .board) at₁ (turn t .loop .j + 1)
+abbrev board : Found → Board
+board t = turn t .loop .b
+
+-- what is said of the turn's outcome carries the loop on
+abbrev Said : Found → Outcome → ℕ → List ℕ → Type 0
+Said t outcome at₁ out₁ =
+    let a = start t .args in
+    let l = turn t .loop in
+    Puts (saidOf (a .form) (a .first + l .j) outcome) (roomOf (a .form)) (l .out) (l .at) at₁ out₁
+
+abbrev Again : Found → Outcome → ℕ → List ℕ → Type 0
+Again t outcome at₁ out₁ =
+    let a = start t .args in
+    Inv-loop (a .form) (now (a .trace)) (a .first) (a .number) (now (a .out)) (a .place) (a .start) (a .place) 0 out₁ (outcome .board) at₁ (turn t .loop .j + 1)
+
+next : (t : Found) (outcome : Outcome) → turnedInSix (board t) (t .turn-at .result) ≡ outcome
+    → (at₁ : ℕ) (out₁ : List ℕ) → Said t outcome at₁ out₁ → Again t outcome at₁ out₁
 next t outcome comes at₁ out₁ said =
     let a = start t .args in
     let l = turn t .loop in
-    let h = t .before .before .before .before .loop-test .taken in (
+    let h = t .before .before .before .loop-test .taken in (
       omega (arith, h),
-      goes-on (a .form) (now (a .trace)) (a .first) (a .number) (start t .pre .0) (a .start) (now (a .out)) (a .place) (l .b) (l .at) (l .j) (l .out) (l .inv .1) h
-          (t .before .before .before .operation-in .result)
-          (λ p e. t .before .before .before .operation-in .ensures ∙ in-sound (now (a .trace)) (a .first + l .j) p e)
-          outcome
-          (turn-made (l .b) (t .before .before .before .operation-in .result) ∙ ap (turnedInSix (l .b)) (sym (t .turn-of .ensures .0)) ∙ comes)
+      goes-on (a .form) (now (a .trace)) (a .first) (a .number) (start t .pre .0) (a .start) (now (a .out)) (a .place) (l .b) (l .at) (l .j) (l .out) (l .inv .1) h outcome
+          (λ o is. turn-at-made (l .b) (now (a .trace)) (a .first + l .j) o is ∙ ap (turnedInSix (l .b)) (sym (t .turn-at .ensures .0)) ∙ comes)
           at₁
           out₁
-          (said .0)
-          (said .1),
+          said,
     )
 
-less : (t : Turned) → start t .args .number - (turn t .loop .j + 1) < start t .args .number - turn t .loop .j
-less t = omega (arith, t .before .before .before .before .loop-test .taken)
+less : (t : Found) → start t .args .number - (turn t .loop .j + 1) < start t .args .number - turn t .loop .j
+less t = omega (arith, t .before .before .before .loop-test .taken)
 
-on-board : (c : tie.After-known-told Inv-loop μ-loop) → c .before .turn .given .0 .0 < 3
-on-board c = subst OnBoard (c .before .turn .given .1) (c .before .before .before .turn-of .ensures .1)
+-- where the turn is known to be work on a channel
+abbrev Known : Type 0
+Known = tie.After-known-told Inv-loop μ-loop
 
--- work on a channel, and what it comes to
-worked : (t : Turned) (n : ℕ) (w : Work) → t .turn-of .result ≡ OnChannel n w → (v : Work) → w ≡ v → (made : Outcome)
-    → inSix (workOn (turn t .loop .b) n v twoLent 0) ≡ made → turnedInSix (turn t .loop .b) (t .turn-of .result) ≡ made
-worked t n w is v same made comes =
-    let b = turn t .loop .b in
-    ap (turnedInSix b) is ∙ ap (λ (u : Work). turnedInSix b (OnChannel n u)) same ∙ comes
+abbrev found : Known → Found
+found k = k .before .before .before
+
+abbrev channel : Known → ℕ
+channel k = k .before .turn .given .0 .0
+
+abbrev work : Known → Work
+work k = k .before .turn .given .0 .1 .0
+
+on-board : (k : Known) → channel k < 3
+on-board k = subst OnBoard (k .before .turn .given .1) (found k .turn-at .ensures .1)
+
+-- what the work is, with the bytes that a trace lends
+abbrev Comes : Known → Work → Outcome → Type 0
+Comes k w made = inSix (workOn (board (found k)) (channel k) w twoLent 0) ≡ made
+
+works : (k : Known) (w : Work) → work k ≡ w → (made : Outcome) → Comes k w made
+    → (at₁ : ℕ) (out₁ : List ℕ) → Said (found k) made at₁ out₁ → Again (found k) made at₁ out₁
+works k w is made comes =
+    let b = board (found k) in
+    next (found k) made (ap (turnedInSix b) (k .before .turn .given .1) ∙ ap (λ (v : Work). turnedInSix b (OnChannel (channel k) v)) is ∙ comes)
+
+-- a new record is the one that the work asks for: it may raise an event, or is not heard of
+abbrev raising : Known → Channel → Outcome
+raising k d = inSix (settle (board (found k)) (channel k) d twoLent 0)
+
+as-raised : (k : Known) (asked new : Channel) → new ≡ asked → raising k asked ≡ raising k new
+as-raised k asked new is = ap (raising k) (sym is)
+
+abbrev unheard : Known → Channel → Outcome
+unheard k d = inSix (withEvents twoLent (accept done (withChannel (board (found k)) (channel k) d)))
+
+as-unheard : (k : Known) (asked new : Channel) → new ≡ asked → unheard k asked ≡ unheard k new
+as-unheard k asked new is = ap (unheard k) (sym is)
 
 -- a byte written to a data port
+abbrev writes : tie.After-slice-known2 Inv-loop μ-loop → tie.After-work Inv-loop μ-loop
+writes c = c .before .before .before .before .before .before .before .before .before .before
+
 loop-again : tie.Need-loop-again Inv-loop μ-loop
 loop-again c =
-    let t = c .before .before .before .before .before .before .before .before .before .before .before .before .before .before .before in
-    next t _ (worked t _ _ (c .before .before .before .before .before .before .before .before .before .before .before .before .before .turn .given .1) _ (c .before .before .before .before .before .before .before .before .before .before .work .given .1) _ (ap (λ (d : Channel). inSix (settle (turn t .loop .b) (c .before .before .before .before .before .before .before .before .before .before .before .before .before .turn .given .0 .0) d twoLent 0)) (sym (c .before .before .before .before .before .before .before .write-byte .ensures)) ∙ sym (c .before .before .before .before .before .before .raise .ensures (turn t .loop .b) refl))) _ _ (c .before .before .say .ensures)
+    let raised = c .before .before .before .before .before .before in
+    let k = writes c .before .before in
+    works k _ (writes c .work .given .1) _ (as-raised k _ _ (raised .before .write-byte .ensures) ∙ sym (raised .raise .ensures (board (found k)) refl)) _ _ (c .before .before .say .ensures)
 
 -- a latch raises no event
+abbrev latches : tie.After-slice-known3 Inv-loop μ-loop → tie.After-enum-told Inv-loop μ-loop
+latches c = c .before .before .before .before .before .before .before
+
 loop-again-2 : tie.Need-loop-again-2 Inv-loop μ-loop
 loop-again-2 c =
-    let t = c .before .before .before .before .before .before .before .before .before .before .before .before in
-    next t _ (worked t _ _ (c .before .before .before .before .before .before .before .before .before .before .turn .given .1) _ (c .before .before .before .before .before .before .before .enum-told .given .1) _ (latch-unheard (turn t .loop .b) (c .before .before .before .before .before .before .before .before .before .before .turn .given .0 .0) _ (c .before .before .before .before .before .latch-count .ensures))) _ _ (c .before .before .say2 .ensures)
+    let k = latches c .before .before in
+    works k _ (latches c .enum-told .given .1) _ (latch-unheard (board (found k)) (channel k) _ (c .before .before .before .before .before .latch-count .ensures)) _ _ (c .before .before .say2 .ensures)
 
 -- a mode set
+abbrev sets-mode : tie.After-slice-known4 Inv-loop μ-loop → tie.After-work2 Inv-loop μ-loop
+sets-mode c = c .before .before .before .before .before .before .before .before .before .before
+
 loop-again-3 : tie.Need-loop-again-3 Inv-loop μ-loop
 loop-again-3 c =
-    let t = c .before .before .before .before .before .before .before .before .before .before .before .before .before .before .before in
-    next t _ (worked t _ _ (c .before .before .before .before .before .before .before .before .before .before .before .before .before .turn .given .1) _ (c .before .before .before .before .before .before .before .before .before .before .work2 .given .1) _ (ap (λ (d : Channel). inSix (settle (turn t .loop .b) (c .before .before .before .before .before .before .before .before .before .before .before .before .before .turn .given .0 .0) d twoLent 0)) (sym (c .before .before .before .before .before .before .before .set-mode .ensures)) ∙ sym (c .before .before .before .before .before .before .raise2 .ensures (turn t .loop .b) refl))) _ _ (c .before .before .say3 .ensures)
+    let raised = c .before .before .before .before .before .before in
+    let k = sets-mode c .before .before in
+    works k _ (sets-mode c .work2 .given .1) _ (as-raised k _ _ (raised .before .set-mode .ensures) ∙ sym (raised .raise2 .ensures (board (found k)) refl)) _ _ (c .before .before .say3 .ensures)
 
 -- a level at a gate
+abbrev sets-gate : tie.After-slice-known5 Inv-loop μ-loop → tie.After-work3 Inv-loop μ-loop
+sets-gate c = c .before .before .before .before .before .before .before .before .before .before
+
 loop-again-4 : tie.Need-loop-again-4 Inv-loop μ-loop
 loop-again-4 c =
-    let t = c .before .before .before .before .before .before .before .before .before .before .before .before .before .before .before in
-    next t _ (worked t _ _ (c .before .before .before .before .before .before .before .before .before .before .before .before .before .turn .given .1) _ (c .before .before .before .before .before .before .before .before .before .before .work3 .given .1) _ (ap (λ (d : Channel). inSix (settle (turn t .loop .b) (c .before .before .before .before .before .before .before .before .before .before .before .before .before .turn .given .0 .0) d twoLent 0)) (sym (c .before .before .before .before .before .before .before .set-gate .ensures)) ∙ sym (c .before .before .before .before .before .before .raise3 .ensures (turn t .loop .b) refl))) _ _ (c .before .before .say4 .ensures)
+    let raised = c .before .before .before .before .before .before in
+    let k = sets-gate c .before .before in
+    works k _ (sets-gate c .work3 .given .1) _ (as-raised k _ _ (raised .before .set-gate .ensures) ∙ sym (raised .raise3 .ensures (board (found k)) refl)) _ _ (c .before .before .say4 .ensures)
 
 -- a read
+abbrev reads : tie.After-slice-known6 Inv-loop μ-loop → tie.After-enum-told2 Inv-loop μ-loop
+reads c = c .before .before .before .before .before .before .before .before
+
 loop-again-5 : tie.Need-loop-again-5 Inv-loop μ-loop
 loop-again-5 c =
-    let t = c .before .before .before .before .before .before .before .before .before .before .before .before .before in
-    next t _ (worked t _ _ (c .before .before .before .before .before .before .before .before .before .before .before .turn .given .1) _ (c .before .before .before .before .before .before .before .before .enum-told2 .given .1) _ (ap (λ (r : ByteRead). inSix (withEvents twoLent (readInto (turn t .loop .b) (c .before .before .before .before .before .before .before .before .before .before .before .turn .given .0 .0) r))) (sym (c .before .before .before .before .before .before .read-byte .ensures)))) _ _ (c .before .before .say5 .ensures)
+    let k = reads c .before .before in
+    works k _ (reads c .enum-told2 .given .1) _
+    (ap (λ (r : ByteRead). inSix (withEvents twoLent (readInto (board (found k)) (channel k) r))) (sym (c .before .before .before .before .before .before .read-byte .ensures)))
+    _ _ (c .before .before .say5 .ensures)
 
 -- counts
+abbrev counts : tie.After-slice-known7 Inv-loop μ-loop → tie.After-work4 Inv-loop μ-loop
+counts c = c .before .before .before .before .before .before .before .before
+
 loop-again-6 : tie.Need-loop-again-6 Inv-loop μ-loop
 loop-again-6 c =
-    let t = c .before .before .before .before .before .before .before .before .before .before .before .before .before in
-    next t _ (worked t _ _ (c .before .before .before .before .before .before .before .before .before .before .before .turn .given .1) _ (c .before .before .before .before .before .before .before .before .work4 .given .1) _ (ap (λ (d : Channel). inSix (withEvents twoLent (accept done (withChannel (turn t .loop .b) (c .before .before .before .before .before .before .before .before .before .before .before .turn .given .0 .0) d)))) (sym (c .before .before .before .before .before .counts .ensures)))) _ _ (c .before .before .say6 .ensures)
+    works (counts c .before .before) _ (counts c .work4 .given .1) _ (as-unheard (counts c .before .before) _ _ (c .before .before .before .before .before .counts .ensures)) _ _ (c .before .before .say6 .ensures)
 
 -- a load cycle
+abbrev cycles : tie.After-slice-known8 Inv-loop μ-loop → tie.After-enum-told3 Inv-loop μ-loop
+cycles c = c .before .before .before .before .before .before .before
+
 loop-again-7 : tie.Need-loop-again-7 Inv-loop μ-loop
 loop-again-7 c =
-    let t = c .before .before .before .before .before .before .before .before .before .before .before .before in
-    next t _ (worked t _ _ (c .before .before .before .before .before .before .before .before .before .before .turn .given .1) _ (c .before .before .before .before .before .before .before .enum-told3 .given .1) _ (ap (λ (d : Channel). inSix (withEvents twoLent (accept done (withChannel (turn t .loop .b) (c .before .before .before .before .before .before .before .before .before .before .turn .given .0 .0) d)))) (sym (c .before .before .before .before .before .load-cycle .ensures)))) _ _ (c .before .before .say7 .ensures)
+    works (cycles c .before .before) _ (cycles c .enum-told3 .given .1) _ (as-unheard (cycles c .before .before) _ _ (c .before .before .before .before .before .load-cycle .ensures)) _ _ (c .before .before .say7 .ensures)
 
 -- a catch-up or a run
+abbrev elapses : tie.After-slice-known9 Inv-loop μ-loop → tie.After-turn2 Inv-loop μ-loop
+elapses c = c .before .before .before .before .before .before .before .before .before .before .before
+
 loop-again-8 : tie.Need-loop-again-8 Inv-loop μ-loop
 loop-again-8 c =
-    let t = c .before .before .before .before .before .before .before .before .before .before .before .before .before in
-    let b = turn t .loop .b in
-    next t _ (ap (turnedInSix b) (c .before .before .before .before .before .before .before .before .before .before .before .turn2 .given .1) ∙ ap (λ (o : Outcome). inSix (withEvents twoLent o)) (sym (c .before .before .before .before .before .before .before .elapse .ensures b (record { divisor-is = refl; remainder-is = refl; warp-is = refl; defer-is = refl; owed-is = refl })))) _ _ (c .before .before .say8 .ensures)
+    let t = elapses c .before .before in
+    next t _ (ap (turnedInSix (board t)) (elapses c .turn2 .given .1) ∙ ap (λ (o : Outcome). inSix (withEvents twoLent o)) (sym (c .before .before .before .before .before .before .before .elapse .ensures (board t) (record { divisor-is = refl; remainder-is = refl; warp-is = refl; defer-is = refl; owed-is = refl }))))
+    _ _ (c .before .before .say8 .ensures)
 
 -- a reset
+abbrev resets : tie.After-slice-known10 Inv-loop μ-loop → tie.After-enum-told4 Inv-loop μ-loop
+resets c = c .before .before .before .before .before .before .before .before .before .before .before
+
 loop-again-9 : tie.Need-loop-again-9 Inv-loop μ-loop
 unfolding restored
 loop-again-9 c =
-    let t = c .before .before .before .before .before .before .before .before .before .before .before .before .before in
-    let b = turn t .loop .b in
-    next t _ (ap (turnedInSix b) (c .before .before .before .before .before .before .before .before .before .before .before .enum-told4 .given .1) ∙ simp (c .before .before .before .before .before .before .before .reset .ensures, c .before .before .before .before .before .before .reset2 .ensures, c .before .before .before .before .before .reset3 .ensures)) _ _ (c .before .before .say9 .ensures)
+    let t = resets c .before .before in
+    let last = c .before .before .before .before .before in
+    next t _ (ap (turnedInSix (board t)) (resets c .enum-told4 .given .1) ∙ simp (last .before .before .reset .ensures, last .before .reset2 .ensures, last .reset3 .ensures))
+    _ _ (c .before .before .say9 .ensures)
 
-three : (t : Turned) → length (turn t .loop .b .channels) ≡ 3
+three : (t : Found) → length (board t .channels) ≡ 3
 three t =
     let s = start t in
     -- owning the board tells how long its array is
     let begun = sym (length-map (s .args .start .channels) _) ∙ s .good .1 .1 .0 .1 .1 .0 .1 .0 .1 in
-    ap (λ (b : Board). length (b .channels)) (turn t .loop .inv .1 .board-is) ∙ three-left (s .args .start) begun (take (turn t .loop .j) (operationsOf (operationsFrom (now (s .args .trace)) (s .args .first) (s .args .number))))
+    ap (λ (b : Board). length (b .channels)) (turn t .loop .inv .1 .board-is) ∙ three-left (s .args .start) begun (take (turn t .loop .j) (toTell (now (s .args .trace)) (s .args .first) (s .args .number)))
 
--- ticks worked off that are all quiet
+-- ticks worked off that are all quiet: the three channels' new fields, the last first
+abbrev third : tie.After-struct-known2 Inv-loop μ-loop → tie.After-skipped3 Inv-loop μ-loop
+third c = c .before .before .before .before .before
+
+abbrev second : tie.After-struct-known2 Inv-loop μ-loop → tie.After-skipped2 Inv-loop μ-loop
+second c = third c .before .before .before .before .before
+
+abbrev first : tie.After-struct-known2 Inv-loop μ-loop → tie.After-skipped Inv-loop μ-loop
+first c = second c .before .before .before .before .before
+
+abbrev skips : tie.After-slice-known11 Inv-loop μ-loop → tie.After-turn3 Inv-loop μ-loop
+skips c = first (c .before .before .before .before .before .before) .before .before .before .before .before .before .before
+
 loop-again-10 : tie.Need-loop-again-10 Inv-loop μ-loop
 loop-again-10 c =
-    let t = c .before .before .before .before .before .before .before .before .before .before .before .before .before .before .before .before .before .before .before .before .before .before .before .before .before .before .before .before .before .before in
-    let b = turn t .loop .b in
-    next t _ (ap (turnedInSix b) (c .before .before .before .before .before .before .before .before .before .before .before .before .before .before .before .before .before .before .before .before .before .before .before .before .before .before .before .before .turn3 .given .1) ∙ all-quiet b (three t) _ _ (c .before .before .before .before .before .before .before .before .before .before .before .before .before .before .before .before .before .before .before .before .before .before .before .quiet-run .ensures) (c .before .before .before .before .before .before .before .before .before .before .before .before .before .before .before .before .before .before .before .before .before .before .if1 .taken) _ _ _ (c .before .before .before .before .before .before .before .before .before .before .before .before .before .before .before .before .before .before .before .before .before .skipped .ensures) (c .before .before .before .before .before .before .before .before .before .before .before .before .before .before .before .before .skipped2 .ensures) (c .before .before .before .before .before .before .before .before .before .before .before .skipped3 .ensures) _ (c .before .before .before .all-made .ensures)) _ _ (c .before .before .say10 .ensures)
+    let t = skips c .before .before in
+    let all = c .before .before .before .before .before .before in
+    let run = first all .before in
+    next t _ (ap (turnedInSix (board t)) (skips c .turn3 .given .1) ∙ all-quiet (board t) (three t) _ _ (run .before .quiet-run .ensures) (run .if1 .taken) _ _ _ (first all .skipped .ensures) (second all .skipped2 .ensures) (third all .skipped3 .ensures) _ (c .before .before .before .all-made .ensures))
+    _ _ (c .before .before .say10 .ensures)
 
 -- .. and others: all six lent bytes are told
+abbrev ticked : tie.After-slice-known12 Inv-loop μ-loop → tie.After-work-channels Inv-loop μ-loop
+ticked c = c .before .before .before .before .before .before .before .before .before .before
+
+abbrev ticks : tie.After-slice-known12 Inv-loop μ-loop → tie.After-turn3 Inv-loop μ-loop
+ticks c = ticked c .before .before .before .before .before .before .before .before
+
 loop-again-11 : tie.Need-loop-again-11 Inv-loop μ-loop
 loop-again-11 c =
-    let t = c .before .before .before .before .before .before .before .before .before .before .before .before .before .before .before .before .before .before .before .before in
-    let b = turn t .loop .b in
-    let made = c .before .before .before .before .before .before .before .before .before .before .work-channels in
+    let t = ticks c .before .before in
+    let made = ticked c .work-channels in
     let lent = made .last .1 .1 .1 .1 .1 .1 .0 in
     let long : length lent ≡ 6 = search needs in
-    next t _ (ap (turnedInSix b) (c .before .before .before .before .before .before .before .before .before .before .before .before .before .before .before .before .before .before .turn3 .given .1) ∙ some-made b (three t) _ (made .result) lent long (made .ensures)) _ _ (c .before .before .say11 .ensures)
+    next t _ (ap (turnedInSix (board t)) (ticks c .turn3 .given .1) ∙ some-made (board t) (three t) _ (made .result) lent long (made .ensures)) _ _ (c .before .before .say11 .ensures)
 
 -- what leaves the board as it is
+abbrev says : tie.After-slice-known13 Inv-loop μ-loop → tie.After-turn4 Inv-loop μ-loop
+says c = c .before .before .before .before .before .before
+
 loop-again-12 : tie.Need-loop-again-12 Inv-loop μ-loop
-loop-again-12 c =
-    let t = c .before .before .before .before .before .before .before .before in
-    let b = turn t .loop .b in
-    next t _ (ap (turnedInSix b) (c .before .before .before .before .before .before .turn4 .given .1)) _ _ (c .before .before .say12 .ensures)
+loop-again-12 c = let t = says c .before .before in next t _ (ap (turnedInSix (board t)) (says c .turn4 .given .1)) _ _ (c .before .before .say12 .ensures)
 
 -- a command that does nothing
+abbrev stays : tie.After-slice-known14 Inv-loop μ-loop → tie.After-enum-told5 Inv-loop μ-loop
+stays c = c .before .before .before .before .before
+
 loop-again-13 : tie.Need-loop-again-13 Inv-loop μ-loop
 loop-again-13 c =
-    let t = c .before .before .before .before .before .before .before in
-    let b = turn t .loop .b in
-    next t _ (ap (turnedInSix b) (c .before .before .before .before .before .enum-told5 .given .1) ∙ nothing-unheard b) _ _ (c .before .before .say13 .ensures)
+    let t = stays c .before .before in
+    next t _ (ap (turnedInSix (board t)) (stays c .enum-told5 .given .1) ∙ nothing-unheard (board t)) _ _ (c .before .before .say13 .ensures)
 
 returns : tie.Need-returns Inv-loop μ-loop
 returns c =
+    let l = c .before .loop in
     let start = c .before .before .before .before in
     let a = start .args in
-    let l = c .before .loop in
     let all : l .j ≡ a .number = omega (arith, l .inv .0, c .loop-test .left) in
     ended (a .form) (now (a .trace)) (a .first) (a .number) (start .pre .0) (a .start) (now (a .out)) (a .place) (l .b) (l .at) (l .j) (l .out) (l .inv .1) all (start .pre .1 .1)
 
@@ -196,124 +283,42 @@ tell-spec =
     Inv-loop
     μ-loop
     loop-holds
+    -- the turn is found
+    (λ c. omega (arith, c .before .before .before .before .pre .1, c .loop-test .taken))
     (λ c. omega (arith, c .before .before .before .before .pre .1, c .loop-test .taken))
     (λ c κs. search needs)
-    (λ c. omega (arith, c .before .before .before .before .before .pre .1, c .before .loop-test .taken))
-    (λ c κs. search needs)
-    (λ c. search needs)
-    (λ c. omega (arith, on-board c))
-    (λ c. search needs)
-    (λ c. omega (arith, on-board (c .before .before .before)))
-    (λ c. on-board (c .before .before .before))
-    (λ c κs. search needs)
-    (λ c. omega (arith, on-board (c .before .before .before .before .before)))
-    (λ c. on-board (c .before .before .before .before .before))
-    (λ c κs. search needs)
-    (λ c κs. search needs)
-    (λ c. less (c .before .before .before .before .before .before .before .before .before .before .before .before .before .before .before))
-    loop-again
-    (λ c. search needs)
-    (λ c. omega (arith, on-board (c .before .before)))
-    (λ c. on-board (c .before .before))
-    (λ c κs. search needs)
-    (λ c. omega (arith, on-board (c .before .before .before .before)))
-    (λ c. on-board (c .before .before .before .before))
-    (λ c κs. search needs)
-    (λ c. less (c .before .before .before .before .before .before .before .before .before .before .before .before))
-    loop-again-2
-    (λ c. search needs)
-    (λ c. omega (arith, on-board (c .before .before .before)))
-    (λ c. on-board (c .before .before .before))
-    (λ c κs. search needs)
-    (λ c. omega (arith, on-board (c .before .before .before .before .before)))
-    (λ c. on-board (c .before .before .before .before .before))
-    (λ c κs. search needs)
-    (λ c κs. search needs)
-    (λ c. less (c .before .before .before .before .before .before .before .before .before .before .before .before .before .before .before))
-    loop-again-3
-    (λ c. search needs)
-    (λ c. omega (arith, on-board (c .before .before .before)))
-    (λ c. on-board (c .before .before .before))
-    (λ c κs. search needs)
-    (λ c. omega (arith, on-board (c .before .before .before .before .before)))
-    (λ c. on-board (c .before .before .before .before .before))
-    (λ c κs. search needs)
-    (λ c κs. search needs)
-    (λ c. less (c .before .before .before .before .before .before .before .before .before .before .before .before .before .before .before))
-    loop-again-4
-    (λ c. search needs)
-    (λ c. omega (arith, on-board (c .before .before)))
-    (λ c. on-board (c .before .before))
-    (λ c κs. search needs)
-    (λ c. omega (arith, on-board (c .before .before .before .before .before)))
-    (λ c. on-board (c .before .before .before .before .before))
-    (λ c κs. search needs)
-    (λ c. less (c .before .before .before .before .before .before .before .before .before .before .before .before .before))
-    loop-again-5
-    (λ c. search needs)
-    (λ c. omega (arith, on-board (c .before .before .before)))
-    (λ c. on-board (c .before .before .before))
-    (λ c κs. search needs)
-    (λ c. omega (arith, on-board (c .before .before .before .before .before)))
-    (λ c. on-board (c .before .before .before .before .before))
-    (λ c κs. search needs)
-    (λ c. less (c .before .before .before .before .before .before .before .before .before .before .before .before .before))
-    loop-again-6
-    (λ c. search needs)
-    (λ c. omega (arith, on-board (c .before .before)))
-    (λ c. on-board (c .before .before))
-    (λ c κs. search needs)
-    (λ c. omega (arith, on-board (c .before .before .before .before)))
-    (λ c. on-board (c .before .before .before .before))
-    (λ c κs. search needs)
-    (λ c. less (c .before .before .before .before .before .before .before .before .before .before .before .before))
-    loop-again-7
-    (λ c. search needs)
-    (λ c κs. search needs)
-    (λ c κs. search needs)
-    (λ c. less (c .before .before .before .before .before .before .before .before .before .before .before .before .before))
-    loop-again-8
-    (λ c. search needs)
-    (λ c. search needs)
-    (λ c. search needs)
-    (λ c. search needs)
-    (λ c κs. search needs)
-    (λ c κs. search needs)
-    (λ c κs. search needs)
-    (λ c κs. search needs)
-    (λ c. less (c .before .before .before .before .before .before .before .before .before .before .before .before .before))
-    loop-again-9
-    (λ c. search needs)
-    (λ c. search needs)
-    (λ c. search needs)
-    (λ c. search needs)
-    (λ c κs. search needs)
-    (λ c κs. search needs)
-    (λ c. search needs)
-    (λ c κs. search needs)
-    (λ c. search needs)
-    (λ c κs. search needs)
-    (λ c. search needs)
-    (λ c. c .before .before .before .before .before .before .before .before .before .before .before .before .before .before .before .before .before .quiet-run .ensures .in-owed)
-    (λ c κs. search needs)
-    (λ c κs. search needs)
-    (λ c. less (c .before .before .before .before .before .before .before .before .before .before .before .before .before .before .before .before .before .before .before .before .before .before .before .before .before .before .before .before .before .before))
-    loop-again-10
-    (λ c. search needs)
-    (λ c κs. search needs)
-    (λ c. search needs)
-    (λ c. search needs)
-    (λ c. search needs)
-    (λ c κs. search needs)
-    (λ c. less (c .before .before .before .before .before .before .before .before .before .before .before .before .before .before .before .before .before .before .before .before))
-    loop-again-11
-    (λ c. search needs)
-    (λ c κs. search needs)
-    (λ c. less (c .before .before .before .before .before .before .before .before))
-    loop-again-12
-    (λ c. search needs)
-    (λ c κs. search needs)
-    (λ c. less (c .before .before .before .before .before .before .before))
-    loop-again-13
-    (λ c. c .before .loop .inv .1 .same-length)
-    returns)
+    -- the arms, one after another, each up to its `loop-again`
+    (λ c. search needs) (λ c. omega (arith, on-board c))
+    (λ c. search needs) (λ c. omega (arith, on-board (c .before .before .before))) (λ c. on-board (c .before .before .before)) (λ c κs. search needs)
+    (λ c. omega (arith, on-board (c .before .before .before .before .before))) (λ c. on-board (c .before .before .before .before .before))
+    (λ c κs. search needs) (λ c κs. search needs) (λ c. less (found (writes c .before .before))) loop-again
+    (λ c. search needs) (λ c. omega (arith, on-board (c .before .before))) (λ c. on-board (c .before .before)) (λ c κs. search needs)
+    (λ c. omega (arith, on-board (c .before .before .before .before))) (λ c. on-board (c .before .before .before .before)) (λ c κs. search needs)
+    (λ c. less (found (latches c .before .before))) loop-again-2
+    (λ c. search needs) (λ c. omega (arith, on-board (c .before .before .before))) (λ c. on-board (c .before .before .before)) (λ c κs. search needs)
+    (λ c. omega (arith, on-board (c .before .before .before .before .before))) (λ c. on-board (c .before .before .before .before .before))
+    (λ c κs. search needs) (λ c κs. search needs) (λ c. less (found (sets-mode c .before .before))) loop-again-3
+    (λ c. search needs) (λ c. omega (arith, on-board (c .before .before .before))) (λ c. on-board (c .before .before .before)) (λ c κs. search needs)
+    (λ c. omega (arith, on-board (c .before .before .before .before .before))) (λ c. on-board (c .before .before .before .before .before))
+    (λ c κs. search needs) (λ c κs. search needs) (λ c. less (found (sets-gate c .before .before))) loop-again-4
+    (λ c. search needs) (λ c. omega (arith, on-board (c .before .before))) (λ c. on-board (c .before .before)) (λ c κs. search needs)
+    (λ c. omega (arith, on-board (c .before .before .before .before .before))) (λ c. on-board (c .before .before .before .before .before))
+    (λ c κs. search needs) (λ c. less (found (reads c .before .before))) loop-again-5
+    (λ c. search needs) (λ c. omega (arith, on-board (c .before .before .before))) (λ c. on-board (c .before .before .before)) (λ c κs. search needs)
+    (λ c. omega (arith, on-board (c .before .before .before .before .before))) (λ c. on-board (c .before .before .before .before .before))
+    (λ c κs. search needs) (λ c. less (found (counts c .before .before))) loop-again-6
+    (λ c. search needs) (λ c. omega (arith, on-board (c .before .before))) (λ c. on-board (c .before .before)) (λ c κs. search needs)
+    (λ c. omega (arith, on-board (c .before .before .before .before))) (λ c. on-board (c .before .before .before .before)) (λ c κs. search needs)
+    (λ c. less (found (cycles c .before .before))) loop-again-7
+    (λ c. search needs) (λ c κs. search needs) (λ c κs. search needs) (λ c. less (elapses c .before .before)) loop-again-8
+    (λ c. search needs) (λ c. search needs) (λ c. search needs) (λ c. search needs) (λ c κs. search needs) (λ c κs. search needs) (λ c κs. search needs)
+    (λ c κs. search needs) (λ c. less (resets c .before .before)) loop-again-9
+    (λ c. search needs) (λ c. search needs) (λ c. search needs) (λ c. search needs) (λ c κs. search needs) (λ c κs. search needs) (λ c. search needs)
+    (λ c κs. search needs) (λ c. search needs) (λ c κs. search needs) (λ c. search needs)
+    (λ c. first c .before .before .quiet-run .ensures .in-owed)
+    (λ c κs. search needs) (λ c κs. search needs) (λ c. less (skips c .before .before)) loop-again-10
+    (λ c. search needs) (λ c κs. search needs) (λ c. search needs) (λ c. search needs) (λ c. search needs) (λ c κs. search needs)
+    (λ c. less (ticks c .before .before)) loop-again-11
+    (λ c. search needs) (λ c κs. search needs) (λ c. less (says c .before .before)) loop-again-12
+    (λ c. search needs) (λ c κs. search needs) (λ c. less (stays c .before .before)) loop-again-13
+    (λ c. c .before .loop .inv .1 .same-length) returns)

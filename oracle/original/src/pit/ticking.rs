@@ -1,5 +1,5 @@
 //! The original's own ticks, its text unchanged: `Channel::tick` from any record, the timer's `tick` and its `run` from any board. Document 02 draws the tick from the
-//! data sheets, so this is not what ours must do; docs/TICK.md lists in what the two differ.
+//! data sheets, so this is not what ours must do; docs/DIFFERENCES.md lists in what the two differ, R1 to R13.
 
 use super::board::{self, Board};
 use super::operation::{due_call, model, wrong_calls, WRONG_CALLS};

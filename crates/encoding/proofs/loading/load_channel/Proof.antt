@@ -15,7 +15,7 @@ unfolding loadChannel
 returns-2 c =
     let long = le-ltb _ _ (c .before .before .before .if1 .left) in
     let is = rw long at (sym (c .before .before .is-record .ensures) ∙ c .before .if2 .taken) in
-    simp (c .channel-at .ensures, is, long)
+    simp (c .channel-spelled .ensures, is, long)
 
 returns-3 : tie.Need-returns-3
 unfolding loadChannel

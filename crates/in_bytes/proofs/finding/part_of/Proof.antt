@@ -1,7 +1,7 @@
 -- `in_bytes::finding::part_of` meets its contract. Assumes nothing.
 use mathlib.Core.Path.{refl, ap}
 use Rattle.in_bytes.specs.declared.finding.Part.the-variants.{Turned}
-use Rattle.in_bytes.specs.Part.{partOf}
+use Rattle.in_bytes.specs.Inner.{partOf}
 use borrow.Author.Needs.{needs}
 use Rattle.in_bytes.proofs.finding.part_of.Statement.{statement}
 use Rattle.in_bytes.proofs.finding.part_of.Tie as tie

@@ -6,10 +6,9 @@ use Rattle.refusal.specs.Reply.{accepted}
 use Rattle.channel.specs.Queries as channel
 use Rattle.board.specs.Outcome.{outputState, countValue, retriggers}
 use Rattle.board_operation.specs.Made.{numbersOf}
-use Rattle.in_bytes.specs.Parts.{boardIn}
+use Rattle.board_encoding.specs.Loaded.{boardIn}
 use Rattle.in_bytes.proofs.Standing.{kept}
-use Rattle.in_bytes.specs.Part.{cleared, queried}
-use Rattle.in_bytes.specs.Written.{told, written}
+use Rattle.in_bytes.specs.Inner.{cleared, queryAnswered, told, written}
 use borrow.Author.Needs.{needs}
 use Rattle.in_bytes.proofs.working.ask.Statement.{statement}
 use Rattle.in_bytes.proofs.working.ask.Tie as tie
@@ -20,7 +19,7 @@ returns c =
     let same = kept (now (a .bytes)) (λ p. omega (arith, c .before .before .before .before .before .before .slice-known .given p)) (c .before .before .before .before .before .before .before .pre .1) in
     let answer = c .before .get-output-state .ensures ∙ ap channel.getOutputState (c .before .before .before .before .channel-in .ensures) in
     λ events. (λ i. told ((c .numbers-of .ensures ∙ ap (λ x. numbersOf (accepted (outputState x))) answer) i) (sym same i) events)
-    ∙ ap (λ q. written (queried (boardIn (now (a .bytes))) (a .n) q events) (now (a .bytes))) (sym (c .before .before .enum-told .given .1))
+    ∙ ap (λ q. written (queryAnswered (boardIn (now (a .bytes))) (a .n) q events) (now (a .bytes))) (sym (c .before .before .enum-told .given .1))
 
 returns-2 : tie.Need-returns-2
 returns-2 c =
@@ -28,7 +27,7 @@ returns-2 c =
     let same = kept (now (a .bytes)) (λ p. omega (arith, c .before .before .before .before .before .before .slice-known .given p)) (c .before .before .before .before .before .before .before .pre .1) in
     let answer = c .before .get-channel-count .ensures ∙ ap channel.getChannelCount (c .before .before .before .before .channel-in .ensures) in
     λ events. (λ i. told ((c .numbers-of2 .ensures ∙ ap (λ x. numbersOf (accepted (countValue x))) answer) i) (sym same i) events)
-    ∙ ap (λ q. written (queried (boardIn (now (a .bytes))) (a .n) q events) (now (a .bytes))) (sym (c .before .before .enum-told2 .given .1))
+    ∙ ap (λ q. written (queryAnswered (boardIn (now (a .bytes))) (a .n) q events) (now (a .bytes))) (sym (c .before .before .enum-told2 .given .1))
 
 returns-3 : tie.Need-returns-3
 returns-3 c =
@@ -36,7 +35,7 @@ returns-3 c =
     let same = kept (now (a .bytes)) (λ p. omega (arith, c .before .before .before .before .before .before .slice-known .given p)) (c .before .before .before .before .before .before .before .pre .1) in
     let answer = c .before .does-channel-retrigger .ensures ∙ ap channel.doesChannelRetrigger (c .before .before .before .before .channel-in .ensures) in
     λ events. (λ i. told ((c .numbers-of3 .ensures ∙ ap (λ x. numbersOf (accepted (retriggers x))) answer) i) (sym same i) events)
-    ∙ ap (λ q. written (queried (boardIn (now (a .bytes))) (a .n) q events) (now (a .bytes))) (sym (c .before .before .enum-told3 .given .1))
+    ∙ ap (λ q. written (queryAnswered (boardIn (now (a .bytes))) (a .n) q events) (now (a .bytes))) (sym (c .before .before .enum-told3 .given .1))
 
 returns-4 : tie.Need-returns-4
 returns-4 c =
@@ -44,7 +43,7 @@ returns-4 c =
     let board = boardIn (now (a .bytes)) in
     λ events. (λ i. told (c .numbers-of4 .ensures i) (c .before .before .before .put-channel .ensures i) events)
     ∙ ap (λ d. written (cleared board (a .n) d events) (now (a .bytes))) (c .before .before .before .before .before .before .is-dirty .ensures ∙ ap channel.isDirty (c .before .before .before .before .before .before .before .before .before .channel-in .ensures))
-    ∙ ap (λ q. written (queried board (a .n) q events) (now (a .bytes))) (sym (c .before .before .before .before .before .before .before .enum-told4 .given .1))
+    ∙ ap (λ q. written (queryAnswered board (a .n) q events) (now (a .bytes))) (sym (c .before .before .before .before .before .before .before .enum-told4 .given .1))
 
 pub ask-spec : {M : Type 1} → statement M
 ask-spec =

@@ -2,7 +2,7 @@
 use mathlib.Core.Path.{sym, _∙_}
 use native.Mathlib.Omega.{arith}
 use denote.Ref.{now}
-use Rattle.in_bytes.specs.Parts.{Holds}
+use Rattle.board_encoding.specs.Loaded.{HoldsBoard}
 use Rattle.in_bytes.proofs.Calls.{short-call, unreadable-call, unknown-call, no-room, made-call, refused-call}
 use borrow.Author.Needs.{needs}
 use Rattle.in_bytes.proofs.working.call.Statement.{statement}
@@ -20,7 +20,7 @@ returns-2 c =
     let a = c .before .before .before .before .before .before .before .before .args in
     let bytes = now (a .bytes) in
     let events = now (a .events) in
-    let h : Holds bytes = record { long = c .before .before .before .before .before .if1 .left; within = sym (c .before .before .before .board-readable .ensures) ∙ c .before .before .if2 .taken } in
+    let h : HoldsBoard bytes = record { long = c .before .before .before .before .before .if1 .left; within = sym (c .before .before .before .board-readable .ensures) ∙ c .before .before .if2 .taken } in
     unknown-call (a .asked) (a .room) (a .place) bytes events h (c .enum-told .given .1)
 
 returns-3 : tie.Need-returns-3
@@ -28,7 +28,7 @@ returns-3 c =
     let a = c .before .before .before .before .before .before .before .before .before .before .args in
     let bytes = now (a .bytes) in
     let events = now (a .events) in
-    let h : Holds bytes = record { long = c .before .before .before .before .before .before .before .if1 .left; within = sym (c .before .before .before .before .before .board-readable .ensures) ∙ c .before .before .before .before .if2 .taken } in
+    let h : HoldsBoard bytes = record { long = c .before .before .before .before .before .before .before .if1 .left; within = sym (c .before .before .before .before .before .board-readable .ensures) ∙ c .before .before .before .before .if2 .taken } in
     no-room (a .asked) (a .room) (a .place) bytes events h _ (c .before .before .asked .given .1) (c .if3 .taken)
 
 returns-4 : tie.Need-returns-4
@@ -36,7 +36,7 @@ returns-4 c =
     let a = c .before .before .before .before .before .before .before .before .before .before .before .before .before .before .before .before .before .before .before .args in
     let bytes = now (a .bytes) in
     let events = now (a .events) in
-    let h : Holds bytes = record { long = c .before .before .before .before .before .before .before .before .before .before .before .before .before .before .before .before .if1 .left; within = sym (c .before .before .before .before .before .before .before .before .before .before .before .before .before .before .board-readable .ensures) ∙ c .before .before .before .before .before .before .before .before .before .before .before .before .before .if2 .taken } in
+    let h : HoldsBoard bytes = record { long = c .before .before .before .before .before .before .before .before .before .before .before .before .before .before .before .before .if1 .left; within = sym (c .before .before .before .before .before .before .before .before .before .before .before .before .before .before .board-readable .ensures) ∙ c .before .before .before .before .before .before .before .before .before .before .before .before .before .if2 .taken } in
     made-call (a .asked) (a .room) (a .place) bytes events h _ (c .before .before .before .before .before .before .before .before .before .before .before .asked .given .1) (c .before .before .before .before .before .before .before .before .before .if3 .left) (c .before .before .before .before .before .before .make .result) _ _ (c .before .before .before .before .before .before .make .ensures) (c .if4 .taken)
 
 returns-5 : tie.Need-returns-5
@@ -44,7 +44,7 @@ returns-5 c =
     let a = c .before .before .before .before .before .before .before .before .before .before .before .before .before .before .before .before .before .before .before .args in
     let bytes = now (a .bytes) in
     let events = now (a .events) in
-    let h : Holds bytes = record { long = c .before .before .before .before .before .before .before .before .before .before .before .before .before .before .before .before .if1 .left; within = sym (c .before .before .before .before .before .before .before .before .before .before .before .before .before .before .board-readable .ensures) ∙ c .before .before .before .before .before .before .before .before .before .before .before .before .before .if2 .taken } in
+    let h : HoldsBoard bytes = record { long = c .before .before .before .before .before .before .before .before .before .before .before .before .before .before .before .before .if1 .left; within = sym (c .before .before .before .before .before .before .before .before .before .before .before .before .before .before .board-readable .ensures) ∙ c .before .before .before .before .before .before .before .before .before .before .before .before .before .if2 .taken } in
     refused-call (a .asked) (a .room) (a .place) bytes events h _ (c .before .before .before .before .before .before .before .before .before .before .before .asked .given .1) (c .before .before .before .before .before .before .before .before .before .if3 .left) (c .before .before .before .before .before .before .make .result) _ _ (c .before .before .before .before .before .before .make .ensures) (λ p. omega (arith, c .before .before .before .before .before .before .before .before .before .before .before .before .before .before .before .before .before .before .slice-known .given p)) (c .if4 .left)
 
 returns-6 : tie.Need-returns-6

@@ -3,9 +3,9 @@ use mathlib.Core.Path.{sym, ap, _∙_}
 use denote.Ref.{now}
 use Rattle.time.specs.declared.SystemTicks.{SystemTicks}
 use Rattle.time.specs.declared.TimerTicks.{TimerTicks}
-use Rattle.in_bytes.specs.Parts.{boardIn}
+use Rattle.board_encoding.specs.Loaded.{boardIn}
 use Rattle.turn.specs.Turn.{withEvents}
-use Rattle.in_bytes.specs.Written.{told, written}
+use Rattle.in_bytes.specs.Inner.{told, written}
 use borrow.Author.Needs.{needs}
 use Rattle.in_bytes.proofs.working.elapse.Statement.{statement}
 use Rattle.in_bytes.proofs.working.elapse.Tie as tie

@@ -6,12 +6,11 @@ use denote.Ref.{now}
 use lib.Dec.{eqb}
 use Rattle.time.specs.declared.TimerTicks.{TimerTicks}
 use Rattle.time.specs.declared.SystemTicks.{SystemTicks}
-use Rattle.in_bytes.specs.Parts.{boardIn}
+use Rattle.board_encoding.specs.Loaded.{boardIn}
 use Rattle.in_bytes.proofs.Standing.{kept}
 use Rattle.board_operation.specs.Made.{numbered}
 use Rattle.in_bytes.specs.declared.finding.Part.{Part}
-use Rattle.in_bytes.specs.Part.{partOf, parted, OnPart}
-use Rattle.in_bytes.specs.Written.{told, written, operated}
+use Rattle.in_bytes.specs.Inner.{partOf, parted, OnPart, told, written, operated}
 use Rattle.in_bytes.proofs.Part.{part-made}
 use borrow.Author.Needs.{needs}
 use Rattle.in_bytes.proofs.working.make.Statement.{statement}

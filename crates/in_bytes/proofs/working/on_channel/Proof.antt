@@ -1,8 +1,8 @@
 -- `in_bytes::working::on_channel` meets its contract. Assumes nothing.
 use mathlib.Core.Path.{sym, ap, _∙_}
 use denote.Ref.{now}
-use Rattle.in_bytes.specs.Parts.{boardIn}
-use Rattle.in_bytes.specs.Written.{told, written}
+use Rattle.board_encoding.specs.Loaded.{boardIn}
+use Rattle.in_bytes.specs.Inner.{told, written}
 use borrow.Author.Needs.{needs}
 use Rattle.in_bytes.proofs.working.on_channel.Statement.{statement}
 use Rattle.in_bytes.proofs.working.on_channel.Tie as tie

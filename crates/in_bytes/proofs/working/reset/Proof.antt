@@ -5,8 +5,9 @@ use denote.Ref.{now}
 use Rattle.channel.specs.Fresh as channel
 use Rattle.board.specs.Board.{owing}
 use Rattle.board.specs.Making.{restored}
-use Rattle.in_bytes.specs.Parts.{boardIn, stored}
-use Rattle.in_bytes.specs.Written.{told}
+use Rattle.board_encoding.specs.Loaded.{boardIn}
+use Rattle.in_bytes.specs.Called.{stored}
+use Rattle.in_bytes.specs.Inner.{told}
 use borrow.Author.Needs.{needs}
 use Rattle.in_bytes.proofs.working.reset.Statement.{statement}
 use Rattle.in_bytes.proofs.working.reset.Tie as tie

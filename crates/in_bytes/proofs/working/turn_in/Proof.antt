@@ -4,9 +4,9 @@ use native.Mathlib.Omega.{arith}
 use denote.Ref.{now}
 use Rattle.turn.specs.Inner.{OnBoard}
 use Rattle.turn.specs.Turn.{turned}
-use Rattle.in_bytes.specs.Parts.{boardIn}
+use Rattle.board_encoding.specs.Loaded.{boardIn}
 use Rattle.in_bytes.proofs.Standing.{kept}
-use Rattle.in_bytes.specs.Written.{told, written}
+use Rattle.in_bytes.specs.Inner.{told, written}
 use borrow.Author.Needs.{needs}
 use Rattle.in_bytes.proofs.working.turn_in.Statement.{statement}
 use Rattle.in_bytes.proofs.working.turn_in.Tie as tie

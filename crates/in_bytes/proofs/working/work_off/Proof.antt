@@ -4,8 +4,8 @@ use mathlib.Core.Path.{sym, ap, _∙_}
 use denote.Ref.{now}
 use Rattle.time.specs.declared.TimerTicks.{TimerTicks}
 use Rattle.owed.specs.Ticked.{Has}
-use Rattle.in_bytes.specs.Parts.{boardIn}
-use Rattle.in_bytes.specs.Written.{told, written}
+use Rattle.board_encoding.specs.Loaded.{boardIn}
+use Rattle.in_bytes.specs.Inner.{told, written}
 use Rattle.in_bytes.proofs.Three.{three}
 use borrow.Author.Needs.{needs}
 use Rattle.in_bytes.proofs.working.work_off.Statement.{statement}

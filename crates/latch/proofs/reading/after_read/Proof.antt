@@ -5,10 +5,10 @@ use Rattle.latch.proofs.reading.after_read.Statement.{statement}
 use Rattle.latch.proofs.reading.after_read.Tie as tie
 
 returns : tie.Need-returns
-returns c = simp (sym (c .before .ends-latch .ensures) ∙ c .if1 .taken)
+returns c = simp (sym (c .before .starts-word .ensures) ∙ c .if1 .taken)
 
 returns-2 : tie.Need-returns-2
-returns-2 c = simp (sym (c .before .ends-latch .ensures) ∙ c .if1 .left)
+returns-2 c = simp (sym (c .before .starts-word .ensures) ∙ c .if1 .left)
 
 pub after-read-spec : {M : Type 1} → statement M
 after-read-spec = tie.close (tie.spec (λ c κs. search needs) returns returns-2)

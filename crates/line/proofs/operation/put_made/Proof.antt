@@ -75,12 +75,7 @@ pub put-made-spec : {M : Type 1} → statement M
 put-made-spec =
     tie.close
     (tie.spec
-    (λ c. search needs)
-    (λ c κs. search needs)
-    (λ c. search needs)
-    (λ c κs. search needs)
-    put-event-requires
+    (λ c. search needs) (λ c κs. search needs) (λ c. search needs) (λ c κs. search needs) put-event-requires
     put-event-requires-2
     put-event-requires-3
-    (λ c. search needs)
-    returns)
+    (λ c. search needs) returns)

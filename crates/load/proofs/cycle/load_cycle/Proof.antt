@@ -8,7 +8,7 @@ returns : tie.Need-returns
 returns c =
     rw cycle-by-parts
     (simp
-    (c .marked .ensures, c .before .latch-after .ensures, c .before .before .counter-after .ensures, c .before .before .before .loads .ensures, c .before .before .before .before .load-value .ensures))
+    (c .marked .ensures, c .before .latch-after .ensures, c .before .before .counter-after .ensures, c .before .before .before .waits-for-cycle .ensures, c .before .before .before .before .load-value .ensures))
 
 pub load-cycle-spec : {M : Type 1} → statement M
 load-cycle-spec =

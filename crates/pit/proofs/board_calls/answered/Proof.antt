@@ -7,7 +7,7 @@ use Rattle.pit.proofs.board_calls.answered.Statement.{statement}
 use Rattle.pit.proofs.board_calls.answered.Tie as tie
 
 returns : tie.Need-returns
-returns c = c .before .before .put-front .ensures .1 ∙ ap (λ l. putFront l (now (c .before .before .before .before .before .before .before .args .answer))) (c .before .before .before .before .before .answer-bytes .ensures)
+returns c = c .before .before .put-front .ensures .1 ∙ ap (λ l. putFront l (now (c .before .before .before .before .before .before .before .args .answer))) (c .before .before .before .before .before .board-answer-bytes .ensures)
 
 pub answered-spec : {M : Type 1} → statement M
 answered-spec =

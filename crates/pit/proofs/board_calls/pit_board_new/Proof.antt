@@ -9,7 +9,8 @@ use Rattle.board.specs.Making.{new}
 use Rattle.board.specs.Outcome.{Outcome}
 use Rattle.runner.proofs.Whole.{new-board}
 use Rattle.pit.specs.Board.{newStatus, newAfter}
-use Rattle.pit.proofs.Making.{not-refused, number-set}
+use Rattle.refusal.proofs.Numbered.{number-set}
+use Rattle.pit.proofs.Making.{not-refused}
 use Rattle.pit.proofs.board_calls.pit_board_new.Statement.{statement}
 use Rattle.pit.proofs.board_calls.pit_board_new.Tie as tie
 

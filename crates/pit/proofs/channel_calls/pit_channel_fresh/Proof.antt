@@ -7,14 +7,14 @@ use denote.Ref.{now}
 use lib.ListN.{length}
 use Rattle.channel.specs.Fresh.{fresh}
 use Rattle.encoding.specs.Front.{fits, putFront}
-use Rattle.encoding.specs.Stored.{channelBytes}
+use Rattle.encoding.specs.Stored.{channelSize, channelBytes}
 use Rattle.encoding.proofs.Length.{bytes-length}
 use borrow.Author.Needs.{needs}
 use Rattle.pit.proofs.channel_calls.pit_channel_fresh.Statement.{statement}
 use Rattle.pit.proofs.channel_calls.pit_channel_fresh.Tie as tie
 
--- what storing the fresh channel's bytes answers says whether 29 bytes fit
-room : (bytes : List ℕ) {l : List ℕ} {answer : Bool} → l ≡ channelBytes fresh → answer ≡ fits (length l) bytes → fits 29 bytes ≡ answer
+-- what storing the fresh channel's bytes answers says whether a record fits
+room : (bytes : List ℕ) {l : List ℕ} {answer : Bool} → l ≡ channelBytes fresh → answer ≡ fits (length l) bytes → fits channelSize bytes ≡ answer
 room bytes e a = sym (a ∙ ap (λ l. fits (length l) bytes) e ∙ ap (λ n. fits n bytes) (bytes-length fresh))
 
 returns : tie.Need-returns

@@ -11,7 +11,7 @@ returns c =
     let first = c .before .before .before .before .before .before .before .before .put-front .ensures .1 in
     let second = c .before .before .put-front2 .ensures .1 in (
       first ∙ ap (λ l. putFront l (now (c .before .before .before .before .before .before .before .before .before .before .before .before .before .before .before .args .bytes))) (c .before .before .before .before .before .before .before .before .before .before .before .channel-bytes .ensures),
-      second ∙ ap (λ l. putFront l (now (c .before .before .before .before .before .before .before .before .before .before .before .before .before .before .before .args .answer))) (c .before .before .before .before .before .answer-bytes .ensures),
+      second ∙ ap (λ l. putFront l (now (c .before .before .before .before .before .before .before .before .before .before .before .before .before .before .before .args .answer))) (c .before .before .before .before .before .channel-answer-bytes .ensures),
     )
 
 pub write-back-spec : {M : Type 1} → statement M

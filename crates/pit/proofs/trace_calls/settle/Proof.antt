@@ -10,7 +10,7 @@ returns : tie.Need-returns
 returns c =
     let a = c .before .before .before .before .before .before .before .before .before .before .args in
     let written = c .before .before .before .before .before .before .before .replayed .given .1 in
-    (simp written, c .before .before .put-front .ensures .1 ∙ ap (λ l. putFront l (now (a .answer))) (c .before .before .before .before .before .answer-bytes .ensures) ∙ simp written)
+    (simp written, c .before .before .put-front .ensures .1 ∙ ap (λ l. putFront l (now (a .answer))) (c .before .before .before .before .before .board-answer-bytes .ensures) ∙ simp written)
 
 pub settle-spec : {M : Type 1} → statement M
 settle-spec =

@@ -1,5 +1,5 @@
 -- `recorded::raising::raise` meets its contract. Assumes nothing.
-use mathlib.Core.Path.{_≡_, ap, sym, _∙_}
+use mathlib.Core.Path.{ap, sym, _∙_}
 use borrow.Author.Needs.{needs}
 use Rattle.channel.specs.declared.Channel.{Channel}
 use Rattle.event.specs.Event.{Placing, levelEvent, placeEvent, placing}

@@ -7,16 +7,16 @@ returns : tie.Need-returns
 returns c = simp (c .number .ensures, c .before .before .answer .given .1)
 
 returns-2 : tie.Need-returns-2
-returns-2 c = simp (c .saying .ensures, c .before .written .ensures, c .before .before .before .answer2 .given .1)
+returns-2 c = simp (c .saying .ensures, c .before .bytes-written .ensures, c .before .before .before .answer2 .given .1)
 
 returns-3 : tie.Need-returns-3
-returns-3 c = simp (c .saying2 .ensures, c .before .before .answer3 .given .1)
+returns-3 c = simp (c .saying2 .ensures, c .before .before .before .answer3 .given .1)
 
 returns-4 : tie.Need-returns-4
 returns-4 c = simp (c .saying3 .ensures, c .before .before .answer4 .given .1)
 
 returns-5 : tie.Need-returns-5
-returns-5 c = simp (c .saying4 .ensures, c .before .written2 .ensures, c .before .before .before .before .answer5 .given .1)
+returns-5 c = simp (c .saying4 .ensures, c .before .bytes-written2 .ensures, c .before .before .before .before .answer5 .given .1)
 
 returns-6 : tie.Need-returns-6
 returns-6 c = simp (c .saying5 .ensures, c .before .enum-told .given .1)
@@ -37,30 +37,10 @@ pub said-in-spec : {M : Type 1} → statement M
 said-in-spec =
     tie.close
     (tie.spec
-    (λ c. search needs)
-    (λ c κs. search needs)
-    (λ c. search needs)
-    (λ c κs. search needs)
-    (λ c κs. search needs)
-    (λ c. search needs)
-    (λ c. search needs)
-    (λ c κs. search needs)
-    (λ c. search needs)
-    (λ c κs. search needs)
-    (λ c. search needs)
-    (λ c κs. search needs)
-    (λ c κs. search needs)
-    (λ c. search needs)
-    (λ c κs. search needs)
-    (λ c. search needs)
-    (λ c κs. search needs)
-    (λ c. search needs)
-    (λ c κs. search needs)
-    (λ c. search needs)
-    (λ c κs. search needs)
-    (λ c. search needs)
-    (λ c κs. search needs)
-    returns
+    (λ c. search needs) (λ c κs. search needs) (λ c. search needs) (λ c κs. search needs) (λ c κs. search needs) (λ c. search needs)
+    (λ c. search needs) (λ c κs. search needs) (λ c. search needs) (λ c κs. search needs) (λ c. search needs) (λ c κs. search needs)
+    (λ c κs. search needs) (λ c. search needs) (λ c κs. search needs) (λ c. search needs) (λ c κs. search needs) (λ c. search needs)
+    (λ c κs. search needs) (λ c. search needs) (λ c κs. search needs) (λ c. search needs) (λ c κs. search needs) returns
     returns-2
     returns-3
     returns-4

@@ -3,11 +3,10 @@ use mathlib.Core.Path.{sym, ap, _∙_}
 use native.Mathlib.Omega.{arith}
 use denote.Ref.{now}
 use borrow.Author.Needs.{needs}
-use Rattle.refusal.specs.Refusal.{refusalNumber}
 use Rattle.line.specs.Lines.{faultLine}
 use Rattle.line.proofs.Back.{line-fits}
 use Rattle.text.proofs.Puts.{wrote}
-use Rattle.trace.specs.Answer.{headJudged}
+use Rattle.trace.specs.Answer.{faultOf, headJudged}
 use Rattle.trace.proofs.Sound.{judged-sound, judged-refused}
 use Rattle.runner.specs.Printed.{printed}
 use Rattle.runner.proofs.Whole.{line-put, prints}
@@ -17,65 +16,62 @@ use Rattle.runner.proofs.lending.replay_into.Tie as tie
 
 returns : tie.Need-returns
 returns c =
-    let a = c .before .before .before .before .before .before .before .args in
-    let fault = c .before .before .judged .given in
-    let is = judged-refused (now (a .trace)) (refusalNumber (fault .0 .0 .refusal)) (fault .0 .0 .place) (sym (c .before .before .before .before .judge .ensures) ∙ ap headJudged (fault .1)) in
-    too-short (now (a .trace)) (now (a .out)) _ (room-refused (now (a .trace)) _ _ is) (c .if1 .taken)
+    let told = c .before .before in
+    let judged = told .before .before in
+    let a = judged .before .before .before .args in
+    let is = judged-refused (now (a .trace)) (faultOf (told .judged .given .0 .0)) (sym (judged .judge .ensures) ∙ ap headJudged (told .judged .given .1)) in
+    too-short (now (a .trace)) (now (a .out)) _ (room-refused (now (a .trace)) _ is) (c .if1 .taken)
 
 put-line-requires : tie.Need-put-line-requires
 put-line-requires c κs = line-fits _ _ (c .before .line-of .ensures .0)
 
 returns-2 : tie.Need-returns-2
 returns-2 c =
-    let a = c .before .before .before .before .before .before .before .before .args in
-    let told = c .before .before .before .judged2 .given in
-    let whole = judged-sound (now (a .trace)) (told .0 .0) (sym (c .before .before .before .before .before .judge .ensures) ∙ ap headJudged (told .1)) in
-    too-short (now (a .trace)) (now (a .out)) _ (room-sound (now (a .trace)) (told .0 .0) whole) (c .if2 .taken)
+    let told = c .before .before .before in
+    let judged = told .before .before in
+    let a = judged .before .before .before .args in
+    let head = told .judged2 .given .0 .0 in
+    let whole = judged-sound (now (a .trace)) head (sym (judged .judge .ensures) ∙ ap headJudged (told .judged2 .given .1)) in
+    too-short (now (a .trace)) (now (a .out)) _ (room-sound (now (a .trace)) head whole) (c .if2 .taken)
 
 replay-sound-requires : tie.Need-replay-sound-requires
 replay-sound-requires c κs =
-    let told = c .before .before .before .before .judged2 .given in
-    let whole = judged-sound _ (told .0 .0) (sym (c .before .before .before .before .before .before .judge .ensures) ∙ ap headJudged (told .1)) in
+    let told = c .before .before .before .before in
+    let whole = judged-sound _ (told .judged2 .given .0 .0) (sym (told .before .before .judge .ensures) ∙ ap headJudged (told .judged2 .given .1)) in
     (whole .all-sound, (whole .not-too-many, c .before .if2 .left))
 
 returns-3 : tie.Need-returns-3
 unfolding printed
 returns-3 c =
-    let a = c .before .before .before .before .before .before .before .before .before .before .before .before .args in
-    let fault = c .before .before .before .before .before .before .before .judged .given in
-    let number = refusalNumber (fault .0 .0 .refusal) in
-    let is = judged-refused (now (a .trace)) number (fault .0 .0 .place) (sym (c .before .before .before .before .before .before .before .before .before .judge .ensures) ∙ ap headJudged (fault .1)) in
-    let line = c .before .before .before .before .line-of in
-    let text = faultLine number (fault .0 .0 .place) in
-    let room = c .before .before .before .before .before .if1 .left in
-    let all = prints (wrote text (now (a .out)) 0 _ _ (line-put _ text _ _ _ _ (line .ensures .0) (c .before .before .put-line .ensures))) (omega (arith, line .ensures .1, room)) in
-    written (now (a .trace)) (now (a .out)) _ (room-refused (now (a .trace)) _ _ is) _ _ room (rw is all)
+    let line = c .before .before .before .before in
+    let room = line .before .if1 .left in
+    let told = line .before .before .before in
+    let judged = told .before .before in
+    let a = judged .before .before .before .args in
+    let fault = faultOf (told .judged .given .0 .0) in
+    let is = judged-refused (now (a .trace)) fault (sym (judged .judge .ensures) ∙ ap headJudged (told .judged .given .1)) in
+    let text = faultLine fault in
+    let all = prints (wrote text (now (a .out)) 0 _ _ (line-put _ text _ _ _ _ (line .line-of .ensures .0) (c .before .before .put-line .ensures))) (omega (arith, line .line-of .ensures .1, room)) in
+    written (now (a .trace)) (now (a .out)) _ (room-refused (now (a .trace)) _ is) _ _ room (rw is all)
 
 returns-4 : tie.Need-returns-4
 unfolding printed
 returns-4 c =
-    let a = c .before .before .before .before .before .before .before .before .before .before .before .before .args in
-    let told = c .before .before .before .before .before .before .before .judged2 .given in
-    let whole = judged-sound (now (a .trace)) (told .0 .0) (sym (c .before .before .before .before .before .before .before .before .before .judge .ensures) ∙ ap headJudged (told .1)) in
-    let said = c .before .before .replay-sound in
-    written (now (a .trace)) (now (a .out)) _ (room-sound (now (a .trace)) (told .0 .0) whole) _ _ (c .before .before .before .before .if2 .left) (rw (whole .whole) (said .ensures))
+    let room = c .before .before .before .before in
+    let told = room .before .before .before in
+    let judged = told .before .before in
+    let a = judged .before .before .before .args in
+    let head = told .judged2 .given .0 .0 in
+    let whole = judged-sound (now (a .trace)) head (sym (judged .judge .ensures) ∙ ap headJudged (told .judged2 .given .1)) in
+    written (now (a .trace)) (now (a .out)) _ (room-sound (now (a .trace)) head whole) _ _ (room .if2 .left) (rw (whole .whole) (c .before .before .replay-sound .ensures))
 
 pub replay-into-spec : {M : Type 1} → statement M
 replay-into-spec =
     tie.close
     (tie.spec
-    (λ c κs. search needs)
-    (λ c. search needs)
-    returns
-    (λ c κs. search needs)
-    put-line-requires
-    (λ c. search needs)
-    (λ c. search needs)
-    (λ c. search needs)
-    (λ c. search needs)
-    returns-2
+    (λ c κs. search needs) (λ c. search needs) returns
+    (λ c κs. search needs) put-line-requires
+    (λ c. search needs) (λ c. search needs) (λ c. search needs) (λ c. search needs) returns-2
     replay-sound-requires
-    (λ c. search needs)
-    returns-3
-    (λ c. search needs)
-    returns-4)
+    (λ c. search needs) returns-3
+    (λ c. search needs) returns-4)

@@ -1,7 +1,8 @@
 -- `trace::judging::judge` meets its contract. Assumes nothing.
 use mathlib.Core.Path.{sym, ap, _∙_}
 use borrow.Author.Needs.{needs}
-use Rattle.trace.specs.Answer.{headJudged, faultJudged}
+use Rattle.trace.specs.Answer.{headJudged}
+use Rattle.trace.specs.Inner.{faultJudged}
 use Rattle.trace.proofs.Turns.{in-turn}
 use Rattle.trace.proofs.judging.judge.Statement.{statement}
 use Rattle.trace.proofs.judging.judge.Tie as tie
@@ -25,12 +26,6 @@ pub judge-spec : {M : Type 1} → statement M
 judge-spec =
     tie.close
     (tie.spec
-    (λ c κs. search needs)
-    (λ c. search needs)
-    (λ c. search needs)
-    returns
-    (λ c κs. search needs)
-    (λ c. search needs)
-    (λ c. search needs)
-    returns-2
+    (λ c κs. search needs) (λ c. search needs) (λ c. search needs) returns
+    (λ c κs. search needs) (λ c. search needs) (λ c. search needs) returns-2
     returns-3)

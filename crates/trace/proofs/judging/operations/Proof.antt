@@ -5,7 +5,8 @@ use native.Mathlib.Numerals.{add-one}
 use native.Mathlib.Omega.{arith}
 use borrow.Author.Needs.{needs}
 use Rattle.trace.specs.Trace.{ending, operationsFrom}
-use Rattle.trace.specs.Answer.{operationJudged, soundness}
+use Rattle.trace.specs.Answer.{operationJudged}
+use Rattle.trace.specs.Inner.{soundness}
 use Rattle.trace.proofs.Turns.{goes-on, stops, at-end}
 use Rattle.trace.proofs.judging.operations.Statement.{statement}
 use Rattle.trace.proofs.judging.operations.Tie as tie
@@ -41,7 +42,7 @@ returns c =
     let a = c .before .before .before .before .before .before .before .args in
     let l = c .before .before .before .before .before .loop in
     let told = c .before .found .given in
-    sym (stops (a .bytes .now) (l .k) (a .number) _ _ (c .before .before .before .before .loop-test .taken) (sym (c .before .before .before .operation-at .ensures) ∙ ap operationJudged (told .1))) ∙ l .inv .2
+    sym (stops (a .bytes .now) (l .k) (a .number) _ (c .before .before .before .before .loop-test .taken) (sym (c .before .before .before .operation-at .ensures) ∙ ap operationJudged (told .1))) ∙ l .inv .2
 
 returns-2 : tie.Need-returns-2 Inv-loop μ-loop
 returns-2 c =
@@ -57,13 +58,7 @@ operations-spec =
     Inv-loop
     μ-loop
     loop-holds
-    (λ c κs. search needs)
-    (λ c. search needs)
-    (λ c. search needs)
-    loop-less
+    (λ c κs. search needs) (λ c. search needs) (λ c. search needs) loop-less
     loop-again
-    (λ c. search needs)
-    returns
-    (λ c κs. search needs)
-    (λ c κs. search needs)
-    returns-2)
+    (λ c. search needs) returns
+    (λ c κs. search needs) (λ c κs. search needs) returns-2)

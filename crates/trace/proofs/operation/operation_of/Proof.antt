@@ -11,8 +11,7 @@ pub operation-of-spec : {M : Type 1} → statement M
 operation-of-spec =
     tie.close
     (tie.spec
-    (λ c. search needs)
-    later-operation-requires
+    (λ c. search needs) later-operation-requires
     (λ c. simp (c .match .keys1))
     (λ c. simp (c .match .keys2))
     (λ c. simp (c .match .keys3))

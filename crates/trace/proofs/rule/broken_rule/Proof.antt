@@ -26,8 +26,6 @@ broken-rule-spec =
     (tie.spec
     returns
     returns-2
-    (λ c κs. search needs)
-    returns-3
-    (λ c κs. search needs)
-    returns-4
+    (λ c κs. search needs) returns-3
+    (λ c κs. search needs) returns-4
     returns-5)

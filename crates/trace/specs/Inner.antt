@@ -1,0 +1,27 @@
+-- Not for readers: what the contracts of private functions and the proofs speak of. No public contract and no theorem's statement needs it.
+use Prim.Native.Nat.{ℕ}
+use mathlib.Core.List.{List, []}
+use mathlib.Core.Path.{_≡_}
+use Rattle.trace.specs.declared.operation.Operation.{Operation}
+use Rattle.trace.specs.declared.judging.Found.{Found}
+use Rattle.trace.specs.declared.judging.Found.the-variants as found
+use Rattle.trace.specs.Judgement.{Judgement, refusedBy, sound, andThen}
+use Rattle.trace.specs.Answer.{faultOf}
+
+-- a code that is none of the first four
+abbrev pub NoneOfFour : ℕ → Type 0
+NoneOfFour code = (code ≡ 1 → ⊥) × (code ≡ 2 → ⊥) × (code ≡ 3 → ⊥) × (code ≡ 4 → ⊥)
+
+-- whether the reader's later parts found a fault
+abbrev pub faultJudged : Found → Judgement Unit
+faultJudged (found.Fault f) = refusedBy (faultOf f)
+faultJudged found.None = sound tt
+
+-- whether there is a fault, and which
+abbrev pub soundness : {A : Type 0} → Judgement A → Judgement Unit
+soundness j = andThen j (λ value. sound tt)
+
+-- the operations of a sound judgement; of a fault there are none
+abbrev pub operationsOf : Judgement (List Operation) → List Operation
+operationsOf (refusedBy f) = []
+operationsOf (sound os) = os
