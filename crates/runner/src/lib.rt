@@ -178,7 +178,15 @@ fn tell(
                         let next = got.channel;
                         b.channels[i] = next;
                         let left = b.remainder;
-                        at = say(form, out, at, index, Answer::Byte(PortRead { byte: got.byte }), none, left);
+                        at = say(
+                            form,
+                            out,
+                            at,
+                            index,
+                            Answer::Byte(PortRead { byte: got.byte }),
+                            none,
+                            left,
+                        );
                     }
                     Work::Counts(number) => {
                         let c = b.channels[i];
