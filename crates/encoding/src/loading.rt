@@ -121,9 +121,12 @@ fn counter_spelled(bytes: &[u8]) -> Counter
     ensures { λ r. ⌜ r ≡ counterSpelled (now (bytes .entry)) ⌝ }
 {
     let channel_state = codes::state_coded(bytes[14]);
+    // Put together here, where the bytes are known to be there: a call of `number_at` looks for each of them again.
+    let low = numbers::word(bytes[15], bytes[16]);
+    let high = numbers::word(bytes[17], bytes[18]);
     Counter {
         channel_state,
-        cycles_in_state: numbers::number_at(bytes, 15),
+        cycles_in_state: numbers::long(low, high),
         counting_element: numbers::word(bytes[19], bytes[20]),
         ticked: codes::flag_coded(bytes[21]),
     }
