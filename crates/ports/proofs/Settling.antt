@@ -1,18 +1,21 @@
 -- What a call that may raise an event leaves: the board as it was, where the event is refused, or the new one, where the call is accepted. Assumes nothing.
-use Prim.Native.Nat.{ℕ, _<_}
-use mathlib.Core.List.{List}
+use Prim.Native.Nat.{ℕ, zero, suc}
+use mathlib.Core.Bool.{Bool}
+use mathlib.Core.List.{List, [], _∷_}
 use mathlib.Core.Path.{_≡_, refl, sym, ap, _∙_}
-use lib.ListN.{length}
+use lib.ListN.{getD, set}
 use Rattle.refusal.specs.Reply.{Reply, refused, accepted}
 use Rattle.refusal.proofs.Apart.{refused-not}
 use Rattle.channel.specs.declared.Channel.{Channel}
+use Rattle.channel.specs.declared.PitType.{PitType}
+use Rattle.channel.specs.Blank.{blank}
 use Rattle.event.specs.declared.Event.the-variants.{Unchanged}
 use Rattle.event.specs.Event.{levelEvent, placeEvent}
 use Rattle.board.specs.declared.Board.{Board}
 use Rattle.board.specs.Board.{channelAt, withChannel}
 use Rattle.board.specs.Outcome.{Outcome, Value, refuse}
 use Rattle.board.proofs.Apart.{answers-apart}
-use Rattle.board.proofs.Channels.{put-found, put-own}
+use Rattle.board.proofs.Channels.{put-own}
 use Rattle.ports.specs.declared.Settled.{Settled}
 use Rattle.ports.specs.Settled.{settledOn}
 use Rattle.ports.specs.Settle.{callReply, boardAfter, settle, untouched}
@@ -30,11 +33,39 @@ pub own-refused : (b : Board) (n : ℕ) (c : Channel) → channelAt b n ≡ c �
     → refuse number (withChannel b n c) events ≡ refuse number b events
 own-refused b n c is number events = ap (λ (d : Board). refuse number d events) (put-own b n c is)
 
--- what the code answers is fixed by the outcome on any board
-pub settled-apart : (b : Board) → length (b .channels) ≡ 3 → (n : ℕ) → n < 3 → (r s : Settled) (events then : List ℕ)
-    → settledOn b n r events ≡ settledOn b n s then → (r ≡ s) × (events ≡ then)
-settled-apart b three n on r s events then e =
-    let channels = sym (put-found b three n on (r .channel)) ∙ ap (λ (o : Outcome). channelAt (o .board) n) e ∙ put-found b three n on (s .channel) in (
+-- there is a board with any record at any place, any model and any defer flag
+abbrev channelsWith : ℕ → Channel → List Channel
+channelsWith zero c = c ∷ []
+channelsWith (suc n) c = blank ∷ channelsWith n c
+
+found-with : (n : ℕ) (c : Channel) → getD (channelsWith n c) n blank ≡ c
+found-with zero c = refl
+found-with (suc n) c = found-with n c
+
+put-with : (n : ℕ) (c d : Channel) → set (channelsWith n c) n d ≡ channelsWith n d
+put-with zero c d = refl
+put-with (suc n) c d = ap (λ (l : List Channel). blank ∷ l) (put-with n c d)
+
+abbrev boardWith : ℕ → Channel → PitType → Bool → Board
+boardWith n c model defer =
+    record {
+      channels = channelsWith n c;
+      model = model;
+      divisor = 0;
+      remainder = record { 0 = 0 };
+      warp = record { 0 = 0 };
+      defer = defer;
+      owed = record { 0 = 0 };
+    }
+
+-- so what the code answers, for any channel's number, is one answer: its outcomes on the boards that have the record fix it
+pub settled-apart : (n : ℕ) (old : Channel) (model : PitType) (defer : Bool) (r s : Settled) (events then : List ℕ)
+    → ((b : Board) → channelAt b n ≡ old → b .model ≡ model → b .defer ≡ defer → settledOn b n r events ≡ settledOn b n s then)
+    → (r ≡ s) × (events ≡ then)
+settled-apart n old model defer r s events then same =
+    let e = same (boardWith n old model defer) (found-with n old) refl refl in
+    let lists = sym (put-with n old (r .channel)) ∙ ap (λ (o : Outcome). o .board .channels) e ∙ put-with n old (s .channel) in
+    let channels = sym (found-with n (r .channel)) ∙ ap (λ (l : List Channel). getD l n blank) lists ∙ found-with n (s .channel) in (
       λ i. record { answer = answers-apart (r .answer) (s .answer) (ap (λ (o : Outcome). o .reply) e) i; channel = channels i },
       ap (λ (o : Outcome). o .events) e,
     )
