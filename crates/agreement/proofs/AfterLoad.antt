@@ -1,5 +1,4 @@
--- The record j ticks after a load has the radix, the mode, the reload value and the mask of the record before it, and it runs if that did. Assumes
--- nothing.
+-- The record j ticks after a load has the radix, the mode and the reload value of the record before it, and it runs if that did. Assumes nothing.
 use Prim.Native.Nat.{ℕ}
 use mathlib.Core.Bool.{_||_}
 use mathlib.Core.Path.{_≡_, ap, _∙_}
@@ -22,9 +21,6 @@ module _ (model : PitType) (c : Channel) (j : ℕ) where
 
   pub reload-after : ticksAfter model c j .load .«reload_value» ≡ c .load .«reload_value»
   reload-after = ap (λ (s : Setting). s .reload) setting-after
-
-  pub mask-after : ticksAfter model c j .reloading .«load_mask» ≡ c .reloading .«load_mask»
-  mask-after = ap (λ (s : Setting). s .reloading .«load_mask») setting-after
 
   pub runs-after : runs (ticksAfter model c j) ≡ runs c
   runs-after = ap (λ (s : Setting). triggered (s .control .mode) || s .gate) setting-after

@@ -12,15 +12,15 @@ use Rattle.channel.specs.declared.LoadType.{LoadType}
 use Rattle.channel.specs.declared.LoadType.the-variants.{InitialLoad, SubsequentLoad}
 use Rattle.channel.specs.declared.PitType.{PitType}
 use Rattle.channel.specs.Shared.{changeChannelState, changeOutputState}
-use Rattle.load.specs.Cycle.{loadValue}
 use Rattle.load.specs.Finalize.{waitingState, firstState, loadsAgain, completeLoad, enterAfter, finalizeLoad}
-use Rattle.mode.specs.Mode.{loadMask}
+use Rattle.load.proofs.Value.{value-whole, value-masked}
+use Rattle.mode.specs.Mode.{setMode}
 use Rattle.sheet.specs.Ticking.{held}
 use Rattle.tick.specs.declared.due.Kind.the-variants.{Deferred, Load}
 use Rattle.tick.specs.Due.{triggered, dueIn, due}
 use Rattle.tick.specs.Tick.{deferred, tick}
-use Rattle.agreement.specs.Ticking.{LoadsNext}
-use Rattle.agreement.specs.Arriving.{movesAtOnce, heedsDefer, ComesFirst, InRegister, WriteDue, WriteMoves, WriteDeferred, DeferredDue, WriteWaits, WriteArrives, DeferredArrives, TriggerArrives}
+use Rattle.agreement.specs.Ticking.{SquareMasked, LoadsNext}
+use Rattle.agreement.specs.Arriving.{movesAtOnce, heedsDefer, ComesFirst, SetMasks, InRegister, WriteDue, WriteMoves, WriteDeferred, DeferredDue, WriteWaits, WriteArrives, DeferredArrives, TriggerArrives}
 use Rattle.agreement.proofs.TickKeeps.{Setting, setting, tick-keeps}
 use Rattle.agreement.proofs.TickLoads.{tick-loads}
 use Rattle.agreement.proofs.GateRise.{afterRise, rise-due, risen}
@@ -94,6 +94,16 @@ pub write-waits : WriteWaits
 unfolding due finalizeLoad completeLoad changeChannelState
 write-waits c defer first waits starts = simp (first, waits, starts)
 
+-- one setting but for the reload value and the gate: what is asked of the mask holds of both or of neither
+masked-alike : (model : PitType) (c d : Channel) {x : ℕ} {gate : Bool}
+    → setting d ≡ record { control = c .control; reloading = c .reloading; reload = x; gate = gate } → SquareMasked model c → SquareMasked model d
+masked-alike model c d same masked square =
+    ap (λ (s : Setting). s .reloading .«load_mask») same ∙ masked (sym (ap (λ (s : Setting). s .control .mode) same) ∙ square)
+
+pub set-masks : SetMasks
+unfolding setMode
+set-masks model c word square = rw square refl
+
 -- what the theorem of the ticks after a load asks: a load due, in a channel with the setting of c but the reload value x and the gate at a level
 arrived : (model : PitType) (c d : Channel) (x : ℕ) (gate : Bool) (n : ℕ)
     → setting d ≡ record { control = c .control; reloading = c .reloading; reload = x; gate = gate }
@@ -104,10 +114,7 @@ arrived model c d x gate n same running register is-due =
       running = ap (λ (s : Setting). triggered (s .control .mode) || s .gate) same ∙ running;
       written =
           ap (λ (s : Setting). s .reload) same ∙ register .stands ∙ sym (ap (λ (s : Setting). held (s .control .«bcd_mode») n) same);
-      mask =
-          ap (λ (s : Setting). s .reloading .«load_mask») same
-          ∙ register .mask
-          ∙ sym (ap (λ (s : Setting). loadMask model 0xFFFF (s .control .mode)) same);
+      mask = masked-alike model c d same (register .mask);
       at-least = rw (ap (λ (s : Setting). s .control .mode) same) (register .at-least);
       at-most = rw (ap (λ (s : Setting). s .control .«bcd_mode») same) (register .at-most);
     }
@@ -119,10 +126,18 @@ unfolding changeChannelState completeLoad
 write-setting c defer moves = rw (enters c defer moves) refl
 
 pub write-moves : WriteMoves
-unfolding loadValue
 write-moves model c defer first may =
-    tick-loads (finalizeLoad c defer) may model (write-due c defer first) .has-value
-    ∙ ap (λ (s : Setting). bitAnd (s .reload) (s .reloading .«load_mask»)) (write-setting c defer (first .moves))
+    let moved = tick-loads (finalizeLoad c defer) may model (write-due c defer first) .has-value in
+    let same = write-setting c defer (first .moves) in
+    let mode : finalizeLoad c defer .control .mode ≡ c .control .mode = ap (λ (s : Setting). s .control .mode) same in
+    record {
+      whole = λ other. moved ∙ value-whole (finalizeLoad c defer) (λ square. other (sym mode ∙ square)) ∙ ap (λ (s : Setting). s .reload) same;
+      masked =
+          λ square.
+          moved
+          ∙ value-masked (finalizeLoad c defer) (mode ∙ square)
+          ∙ ap (λ (s : Setting). bitAnd (s .reload) (s .reloading .«load_mask»)) same;
+    }
 
 pub write-arrives : WriteArrives
 write-arrives model c n register running defer first =

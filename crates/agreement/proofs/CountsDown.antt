@@ -1,7 +1,7 @@
 -- M0, M1, M4, M5: from the load on every tick takes one, and the counter goes round. Assumes nothing.
 use Prim.Native.Nat.{ℕ, zero, suc}
 use mathlib.Core.Bool.{Bool, true, false, false≢true}
-use mathlib.Core.Path.{_≡_, refl, ap, _∙_}
+use mathlib.Core.Path.{_≡_, refl, sym, ap, _∙_}
 use native.Mathlib.Numerals.{add-one}
 use Rattle.numbers.specs.Radix.{radixCounts}
 use Rattle.numbers.proofs.Modulo.{again}
@@ -14,7 +14,7 @@ use Rattle.channel.specs.declared.ReloadFlag.the-variants.{Normal}
 use Rattle.channel.specs.Modes.{byMode, modeNumber}
 use Rattle.channel.specs.Queries.{doesRetrigger}
 use Rattle.count.specs.Count.{count}
-use Rattle.mode.specs.Mode.{loadMask}
+use Rattle.load.proofs.Value.{value-whole}
 use Rattle.sheet.specs.Ticking.{Chip, held, downValue, valueAfter}
 use Rattle.tick.specs.Due.{runs, reloadsFrom}
 use Rattle.tick.specs.Taken.{squareTakes}
@@ -23,7 +23,7 @@ use Rattle.tick.specs.Tick.{endsHalf, tick}
 use Rattle.agreement.specs.Gating.{goesOn}
 use Rattle.agreement.specs.Ticking.{LoadsNext, ticksAfter}
 use Rattle.agreement.proofs.HeldCounts.{values-above, held-round, counts-round}
-use Rattle.agreement.proofs.TickLoads.{LoadedAt, tick-loads, loads-written}
+use Rattle.agreement.proofs.TickLoads.{LoadedAt, tick-loads}
 use Rattle.agreement.proofs.TickCounts.{CountedTo, due-count, tick-counts}
 use Rattle.agreement.proofs.AfterLoad.{radix-after, mode-after, runs-after}
 
@@ -45,8 +45,8 @@ every-down P p0 p1 p4 p5 HardwareTriggeredStrobe down = p5
 any-loaded : (m : ChannelMode) → countsDown m ≡ true → doesRetrigger m ≡ false
 any-loaded = every-down (λ (m : ChannelMode). doesRetrigger m ≡ false) refl refl refl refl
 
-unmasked : (model : PitType) (m : ChannelMode) → countsDown m ≡ true → loadMask model 0xFFFF m ≡ 0xFFFF
-unmasked model = every-down (λ (m : ChannelMode). loadMask model 0xFFFF m ≡ 0xFFFF) refl refl refl refl
+not-square : (m : ChannelMode) → countsDown m ≡ true → m ≡ SquareWaveGenerator → ⊥
+not-square m down square = false≢true (sym (ap countsDown square) ∙ down)
 
 one-taken : (square : ℕ) (m : ChannelMode) → countsDown m ≡ true → byMode 1 1 1 square 1 1 m ≡ 1
 one-taken square = every-down (λ (m : ChannelMode). byMode 1 1 1 square 1 1 m ≡ 1) refl refl refl refl
@@ -92,7 +92,8 @@ module _ (model : PitType) (c : Channel) (n : ℕ) (next : LoadsNext model c n) 
       record {
         down-value =
             load-down .has-value
-            ∙ loads-written c (c .control .«bcd_mode») n (next .written) (next .mask ∙ unmasked model (c .control .mode) down)
+            ∙ value-whole c (not-square (c .control .mode) down)
+            ∙ next .written
             ∙ held-round (c .control .«bcd_mode») n;
         still-counting = load-down .is-counting;
       }

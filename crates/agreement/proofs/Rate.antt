@@ -9,12 +9,13 @@ use borrow.Author.Tests.{eq-eqb, ne-eqb, eqb-true, eqb-false}
 use Rattle.numbers.specs.Radix.{radixCounts}
 use Rattle.channel.specs.declared.Channel.{Channel}
 use Rattle.channel.specs.declared.ChannelMode.{ChannelMode}
-use Rattle.channel.specs.declared.ChannelMode.the-variants.{RateGenerator}
+use Rattle.channel.specs.declared.ChannelMode.the-variants.{RateGenerator, SquareWaveGenerator}
 use Rattle.channel.specs.declared.ChannelState.the-variants.{Counting}
 use Rattle.channel.specs.declared.PitType.{PitType}
 use Rattle.channel.specs.declared.ReloadFlag.the-variants.{Normal}
 use Rattle.channel.specs.Modes.{modeNumber}
 use Rattle.count.specs.Count.{count}
+use Rattle.load.proofs.Value.{value-whole}
 use Rattle.sheet.specs.Ticking.{held, rateValue, valueAfter, outputAfter}
 use Rattle.tick.specs.declared.due.Kind.the-variants.{Reload}
 use Rattle.tick.specs.Due.{runs, reloadsFrom, due}
@@ -23,9 +24,9 @@ use Rattle.agreement.specs.Gating.{goesOn}
 use Rattle.agreement.specs.Ticking.{sheetChip, LoadsNext, ticksAfter, AsTheSheetSays}
 use Rattle.agreement.proofs.HeldCounts.{held-minus, counts-round}
 use Rattle.agreement.proofs.HeldMarks.{held-one}
-use Rattle.agreement.proofs.TickLoads.{LoadedAt, tick-loads, tick-reloads, loads-written}
+use Rattle.agreement.proofs.TickLoads.{LoadedAt, tick-loads, tick-reloads}
 use Rattle.agreement.proofs.TickCounts.{CountedTo, due-count, due-reload, tick-counts}
-use Rattle.agreement.proofs.AfterLoad.{radix-after, mode-after, reload-after, mask-after, runs-after}
+use Rattle.agreement.proofs.AfterLoad.{radix-after, mode-after, reload-after, runs-after}
 
 -- the place in the period, one tick on: the next one, or the first after the last
 last-place : (n j : ℕ) → 2 ≤ n → rateValue n j ≡ 1 → rateValue n (suc j) ≡ n
@@ -46,12 +47,15 @@ pub record RateAt (bcd : Bool) (v : ℕ) (c : Channel) : Type 0 where
   pub rate-level : c .pins .output ≡ not (eqb v 1)
   pub still-counting : c .counter .«channel_state» ≡ Counting Normal
 
+not-square : {m : ChannelMode} → m ≡ RateGenerator → m ≡ SquareWaveGenerator → ⊥
+not-square rate square = let z : _≡_ {A = ℕ} 0 1 = cc in omega arith
+
 -- what a load of n leaves, at a level that is high
-rate-loaded : (bcd : Bool) (n : ℕ) (level : Bool) (c d : Channel) → 2 ≤ n → LoadedAt level c d → level ≡ true
-    → c .load .«reload_value» ≡ held bcd n → c .reloading .«load_mask» ≡ 0xFFFF → RateAt bcd n d
-rate-loaded bcd n level c d least moved high written whole =
+rate-loaded : (bcd : Bool) (n : ℕ) (level : Bool) (c d : Channel) → 2 ≤ n → LoadedAt level c d → level ≡ true → c .control .mode ≡ RateGenerator
+    → c .load .«reload_value» ≡ held bcd n → RateAt bcd n d
+rate-loaded bcd n level c d least moved high mode written =
     record {
-      rate-value = moved .has-value ∙ loads-written c bcd n written whole;
+      rate-value = moved .has-value ∙ value-whole c (not-square mode) ∙ written;
       rate-level = moved .has-level ∙ high ∙ sym (ap not (ne-eqb n 1 (λ q. omega arith)));
       still-counting = moved .is-counting;
     }
@@ -70,12 +74,11 @@ module _ (model : PitType) (bcd : Bool) (v : ℕ) (c : Channel) (mode : c .contr
   at-mark : reloadsFrom (c .control .mode) (c .counter .«counting_element») ≡ eqb v 1
   at-mark = rw (mode, now .rate-value) (held-one bcd v most)
 
-  rate-reloads : (n : ℕ) → 2 ≤ n → n ≤ radixCounts bcd → c .load .«reload_value» ≡ held bcd n → c .reloading .«load_mask» ≡ 0xFFFF
-      → v ≡ 1 → RateAt bcd n (tick model c)
-  rate-reloads n least at-most written whole one =
+  rate-reloads : (n : ℕ) → 2 ≤ n → n ≤ radixCounts bcd → c .load .«reload_value» ≡ held bcd n → v ≡ 1 → RateAt bcd n (tick model c)
+  rate-reloads n least at-most written one =
       let is-due : due c ≡ Reload = due-reload c goes running (at-mark ∙ eq-eqb v 1 one) in
       let may : neverLoaded c ≡ false = rate-may bcd n c least at-most mode written in
-      rate-loaded bcd n _ c (tick model c) least (tick-reloads c may model is-due) (rw mode refl) written whole
+      rate-loaded bcd n _ c (tick model c) least (tick-reloads c may model is-due) (rw mode refl) mode written
 
   -- outside mode 3 a tick takes one and ends no half
   rate-step : (v ≡ 1 → ⊥) → CountedTo (count c .counter .«counting_element») c (tick model c)
@@ -95,16 +98,13 @@ module _ (model : PitType) (c : Channel) (n : ℕ) (next : LoadsNext model c n) 
   least : 2 ≤ n
   least = rw mode at (next .at-least)
 
-  whole : c .reloading .«load_mask» ≡ 0xFFFF
-  whole = rw mode at (next .mask)
-
   rate-first : RateAt (c .control .«bcd_mode») n (tick model c)
   rate-first =
       rate-loaded (c .control .«bcd_mode») n _ c (tick model c) least
       (tick-loads c (rate-may (c .control .«bcd_mode») n c least (next .at-most) mode (next .written)) model (next .load-due))
       (rw mode refl)
+      mode
       (next .written)
-      whole
 
   rate-next : (j : ℕ) (one : Bool) → eqb (rateValue n j) 1 ≡ one → RateAt (c .control .«bcd_mode») (rateValue n j) (ticksAfter model c j)
       → RateAt (c .control .«bcd_mode») (rateValue n (suc j)) (ticksAfter model c (suc j))
@@ -112,7 +112,7 @@ module _ (model : PitType) (c : Channel) (n : ℕ) (next : LoadsNext model c n) 
       rw (last-place n j least (eqb-true _ 1 one))
       (rate-reloads model (c .control .«bcd_mode») (rateValue n j) (ticksAfter model c j)
       (mode-after model c j ∙ mode) (runs-after model c j ∙ next .running) now (omega (arith, next .at-most))
-      n least (next .at-most) (reload-after model c j ∙ next .written) (mask-after model c j ∙ whole) (eqb-true _ 1 one))
+      n least (next .at-most) (reload-after model c j ∙ next .written) (eqb-true _ 1 one))
   rate-next j false other now =
       let b : j % n < n = mod-lt j (omega (arith, least)) in
       rw (next-place n j least (eqb-false _ 1 other))

@@ -125,7 +125,7 @@ module _ (model : PitType) (c : Channel) (n : ℕ) (starts : LoadsNext model c n
         mode-is = square;
         radix-is = refl;
         written = starts .written;
-        masked = starts .mask ∙ simp square;
+        masked = starts .mask square;
         gate-high = simp square at (starts .running);
       }
 

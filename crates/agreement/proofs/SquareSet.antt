@@ -22,6 +22,7 @@ use Rattle.channel.specs.Shared.{changeChannelState, changeOutputState, putElem
 use Rattle.count.specs.Count.{count}
 use Rattle.count.proofs.Repeated.{control-kept}
 use Rattle.load.specs.Cycle.{loadValue}
+use Rattle.load.proofs.Value.{value-masked}
 use Rattle.mode.specs.Mode.{squareMask}
 use Rattle.tick.specs.Tick.{withArmed, loaded, loadAt}
 use Rattle.sheet.specs.Ticking.{held}
@@ -75,8 +76,7 @@ module _ (model : PitType) (bcd : Bool) (n : ℕ) where
       }
 
   value-loaded : (d : Channel) → Set model bcd n d → loadValue d ≡ held bcd (loadedCount model n)
-  unfolding loadValue
-  value-loaded d h = rw (h .written, h .masked) (mask-leaves model bcd n)
+  value-loaded d h = value-masked d (h .mode-is) ∙ rw (h .written, h .masked) (mask-leaves model bcd n)
 
   loaded-at : (level : Bool) (d : Channel) → Set model bcd n d → At model bcd n Normal level (loadedCount model n) (loaded level d)
   unfolding loaded withArmed changeOutputState changeChannelState putElement

@@ -1,6 +1,5 @@
 -- What a tick leaves that loads a count: the load value in the element, the output at the level that the load has, and a channel that counts and is
 -- armed. Assumes nothing.
-use Prim.Native.Nat.{ℕ}
 use mathlib.Core.Bool.{Bool, true, false, cond}
 use mathlib.Core.Path.{_≡_, refl}
 use Rattle.channel.specs.declared.Channel.{Channel}
@@ -11,12 +10,10 @@ use Rattle.channel.specs.Shared.{changeChannelState, changeOutputState, putElem
 use Rattle.channel.specs.Queries.{getOutputState}
 use Rattle.channel.proofs.Pick.{of-pick}
 use Rattle.load.specs.Cycle.{loadValue}
-use Rattle.sheet.specs.Ticking.{held}
 use Rattle.tick.specs.declared.due.Kind.the-variants.{Load, Reload}
 use Rattle.tick.specs.Due.{due}
 use Rattle.tick.specs.Level.{loadLevel, reloadLevel}
 use Rattle.tick.specs.Tick.{neverLoaded, sentBack, withArmed, loaded, loadAt, tick}
-use Rattle.agreement.proofs.SquareHeld.{whole-mask}
 
 -- d is c after a load at a level
 pub record LoadedAt (level : Bool) (c d : Channel) : Type 0 where
@@ -50,9 +47,3 @@ pub tick-level : (model : PitType) (c : Channel) → due c ≡ Load → tick mod
 unfolding tick loadAt sentBack loaded withArmed changeOutputState
 tick-level model c is-due =
     rw is-due (of-pick getOutputState (neverLoaded c) (sentBack c) (loaded (loadLevel (c .control .mode)) c))
-
--- outside mode 3 every load moves the count as it was written
-pub loads-written : (c : Channel) (bcd : Bool) (n : ℕ) → c .load .«reload_value» ≡ held bcd n → c .reloading .«load_mask» ≡ 0xFFFF
-    → loadValue c ≡ held bcd n
-unfolding loadValue
-loads-written c bcd n written whole = rw (written, whole) (whole-mask bcd n)

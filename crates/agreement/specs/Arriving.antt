@@ -6,6 +6,8 @@ use mathlib.Core.Path.{_≡_}
 use lib.Bits.{bitAnd}
 use Rattle.numbers.specs.Radix.{radixCounts}
 use Rattle.channel.specs.declared.Channel.{Channel}
+use Rattle.channel.specs.declared.ChannelMode.the-variants.{SquareWaveGenerator}
+use Rattle.channel.specs.declared.ControlWord.{ControlWord}
 use Rattle.channel.specs.declared.LoadType.{LoadType}
 use Rattle.channel.specs.declared.LoadType.the-variants.{InitialLoad, SubsequentLoad}
 use Rattle.channel.specs.declared.PitType.{PitType}
@@ -13,12 +15,12 @@ use Rattle.channel.specs.Modes.{modeNumber}
 use Rattle.channel.specs.Shared.{waitsForReload}
 use Rattle.gate.specs.Gate.{setGate}
 use Rattle.load.specs.Finalize.{loadsAgain, finalizeLoad}
-use Rattle.mode.specs.Mode.{loadMask}
+use Rattle.mode.specs.Mode.{setMode}
 use Rattle.tick.specs.declared.due.Kind.the-variants.{Idle, Deferred, Load}
 use Rattle.tick.specs.Due.{triggered, runs, due}
 use Rattle.tick.specs.Tick.{neverLoaded, tick}
 use Rattle.sheet.specs.Ticking.{held, smallest}
-use Rattle.agreement.specs.Ticking.{LoadsNext}
+use Rattle.agreement.specs.Ticking.{SquareMasked, LoadsNext}
 use Rattle.agreement.specs.Gating.{rise}
 
 -- a complete load that the ticks are to move at once: a first one, unless it waits for a trigger in a mode that has one (mode 4 after mode 1 has none: docs/TICK.md,
@@ -37,10 +39,14 @@ pub record ComesFirst (c : Channel) (defer : Bool) : Type 0 where
   pub moves : movesAtOnce (c .load .«load_type») c ≡ true
   pub in-time : (defer && heedsDefer (c .load .«load_type») c) ≡ false
 
--- the count n as it was written, in a register of the channel; in range, and with the mask of its mode
+-- the mask is what it must be after every mode set, from any record
+abbrev pub SetMasks : Type 0
+SetMasks = (model : PitType) (c : Channel) (word : ControlWord) → SquareMasked model (setMode c word model)
+
+-- the count n as it was written, in a register of the channel; in range, and in mode 3 with the mask of that mode
 pub record InRegister (model : PitType) (c : Channel) (register n : ℕ) : Type 0 where
   pub stands : register ≡ held (c .control .«bcd_mode») n
-  pub mask : c .reloading .«load_mask» ≡ loadMask model 0xFFFF (c .control .mode)
+  pub mask : SquareMasked model c
   pub at-least : smallest (modeNumber (c .control .mode)) ≤ n
   pub at-most : n ≤ radixCounts (c .control .«bcd_mode»)
 
@@ -48,9 +54,14 @@ pub record InRegister (model : PitType) (c : Channel) (register n : ℕ) : Type 
 abbrev pub WriteDue : Type 0
 WriteDue = (c : Channel) (defer : Bool) → ComesFirst c defer → due (finalizeLoad c defer) ≡ Load
 
+-- what d has in its element of the count written to c: all of it, whatever mask an earlier mode left; in mode 3 what the record's mask leaves (02, L2)
+pub record Moved (c d : Channel) : Type 0 where
+  pub whole : (c .control .mode ≡ SquareWaveGenerator → ⊥) → d .counter .«counting_element» ≡ c .load .«count_register»
+  pub masked : c .control .mode ≡ SquareWaveGenerator → d .counter .«counting_element» ≡ bitAnd (c .load .«count_register») (c .reloading .«load_mask»)
+
 abbrev pub WriteMoves : Type 0
 WriteMoves = (model : PitType) (c : Channel) (defer : Bool) → ComesFirst c defer → neverLoaded (finalizeLoad c defer) ≡ false
-    → tick model (finalizeLoad c defer) .counter .«counting_element» ≡ bitAnd (c .load .«count_register») (c .reloading .«load_mask»)
+    → Moved c (tick model (finalizeLoad c defer))
 
 -- the first tick after a write with the defer flag set only puts the load off, to the second
 abbrev pub WriteDeferred : Type 0

@@ -5,10 +5,11 @@ use mathlib.Core.Path.{_≡_}
 use Rattle.numbers.specs.Times.{times}
 use Rattle.numbers.specs.Radix.{radixCounts}
 use Rattle.channel.specs.declared.Channel.{Channel}
+use Rattle.channel.specs.declared.ChannelMode.the-variants.{SquareWaveGenerator}
 use Rattle.channel.specs.declared.PitType.{PitType}
 use Rattle.channel.specs.declared.PitType.the-variants.{Model8253, Model8254}
 use Rattle.channel.specs.Modes.{modeNumber}
-use Rattle.mode.specs.Mode.{loadMask}
+use Rattle.mode.specs.Mode.{squareMask}
 use Rattle.tick.specs.declared.due.Kind.the-variants.{Load}
 use Rattle.tick.specs.Due.{runs, due}
 use Rattle.tick.specs.Tick.{tick}
@@ -18,13 +19,16 @@ abbrev pub sheetChip : PitType → Chip
 sheetChip Model8253 = chip8253
 sheetChip Model8254 = chip8254
 
--- a channel that runs, whose next tick loads the count n (Arriving.antt says when that is so). Its load mask is the one that its mode set
--- leaves where no mode 3 of the 8254 came before (docs/DIFFERENCES.md, S9)
+-- in mode 3 the load mask is the one that every mode set to it leaves; the other modes ask for none, whatever an earlier mode left there (02, L2)
+abbrev pub SquareMasked : PitType → Channel → Type 0
+SquareMasked model c = c .control .mode ≡ SquareWaveGenerator → c .reloading .«load_mask» ≡ squareMask model
+
+-- a channel that runs, whose next tick loads the count n (Arriving.antt says when that is so)
 pub record LoadsNext (model : PitType) (c : Channel) (n : ℕ) : Type 0 where
   pub load-due : due c ≡ Load
   pub running : runs c ≡ true
   pub written : c .load .«reload_value» ≡ held (c .control .«bcd_mode») n
-  pub mask : c .reloading .«load_mask» ≡ loadMask model 0xFFFF (c .control .mode)
+  pub mask : SquareMasked model c
   pub at-least : smallest (modeNumber (c .control .mode)) ≤ n
   pub at-most : n ≤ radixCounts (c .control .«bcd_mode»)
 

@@ -1,5 +1,6 @@
 // The load cycle by hand: what a tick that loads does to the counting element and the state, without the tick.
 use channel::Channel;
+use channel::ChannelMode;
 use channel::ChannelState;
 use channel::Counter;
 use channel::Latch;
@@ -7,16 +8,32 @@ use channel::ReloadFlag;
 ghost use mathlib.Core.Bool.{true, cond};
 ghost use mathlib.Core.Path.{_≡_};
 ghost use Rattle.channel.specs.Shared.{followed};
-ghost use Rattle.load.specs.Cycle.{loadValue, loadCycle};
+ghost use Rattle.load.specs.Cycle.{maskedIn, loadValue, loadCycle};
 ghost use Rattle.load.specs.Inner.{newlyIn, counterAfter};
+
+// A value as a mode loads it. The mask that a mode 3 left stays in the record, so the other modes must not look at it.
+fn masked_in(mode: ChannelMode, value: u16, mask: u16) -> u16
+    ensures { λ r. ⌜ r ≡ maskedIn mode value mask ⌝ }
+{
+    match mode {
+        ChannelMode::InterruptOnTerminalCount => value,
+        ChannelMode::HardwareRetriggerableOneShot => value,
+        ChannelMode::RateGenerator => value,
+        ChannelMode::SquareWaveGenerator => value & mask,
+        ChannelMode::SoftwareTriggeredStrobe => value,
+        ChannelMode::HardwareTriggeredStrobe => value,
+    }
+}
 
 // The value that a load moves to the counting element.
 pub fn load_value(c: Channel) -> u16
     ensures { λ r. ⌜ r ≡ loadValue c ⌝ }
 {
+    let w = c.control;
+    let mode = w.mode;
     let l = c.load;
     let rule = c.reloading;
-    l.reload_value & rule.load_mask
+    masked_in(mode, l.reload_value, rule.load_mask)
 }
 
 // The counter's group in a state just entered.

@@ -1,9 +1,8 @@
--- A tick leaves an element of 16 bits one of 16 bits: it counts, or loads what the mask leaves of the reload value. Assumes nothing.
+-- A tick leaves an element of 16 bits one of 16 bits: it counts, or loads at most the reload value. Assumes nothing.
 use Prim.Native.Nat.{ℕ, zero, suc, _<_}
 use mathlib.Core.Bool.{Bool, true, false}
 use mathlib.Core.Path.{_≡_, refl}
 use native.Mathlib.Omega.{arith}
-use lib.Bits.{and-le-l}
 use Rattle.numbers.specs.Times.{times}
 use Rattle.channel.specs.declared.Channel.{Channel}
 use Rattle.channel.specs.declared.PitType.{PitType}
@@ -11,6 +10,7 @@ use Rattle.count.specs.Step.{stepIn}
 use Rattle.count.specs.Count.{count}
 use Rattle.count.proofs.Repeated.{element-after}
 use Rattle.load.specs.Cycle.{loadValue}
+use Rattle.load.proofs.Value.{value-at-most}
 use Rattle.tick.specs.Taken.{taken}
 use Rattle.tick.specs.Tick.{tick}
 use Rattle.tick.specs.Loads.{loads}
@@ -26,8 +26,7 @@ counts-fit : (n : ℕ) (c : Channel) → c .counter .«counting_element» < 6553
 counts-fit n c h = rw (element-after n c) (steps-fit n (c .control .«bcd_mode») (c .counter .«counting_element») h)
 
 value-fits : (c : Channel) → c .load .«reload_value» < 65536 → loadValue c < 65536
-unfolding loadValue
-value-fits c h = omega (arith, and-le-l (c .load .«reload_value») (c .reloading .«load_mask»))
+value-fits c h = omega (arith, value-at-most c)
 
 fits-either : (b : Bool) (model : PitType) (c : Channel) → loads model c ≡ b → c .counter .«counting_element» < 65536
     → c .load .«reload_value» < 65536 → tick model c .counter .«counting_element» < 65536

@@ -1,13 +1,16 @@
 -- A tick that loads moves the load value to the element: what stood there, and what the tick counted before it loaded, is gone. Assumes nothing.
-use mathlib.Core.Path.{_≡_, refl, _∙_}
+use mathlib.Core.Path.{_≡_, refl, ap, _∙_}
 use mathlib.Core.Bool.{Bool, true, false, not, _&&_, false≢true}
 use borrow.Author.Tests.{not-true}
 use Rattle.numbers.specs.Times.{times}
 use Rattle.channel.specs.declared.Channel.{Channel}
+use Rattle.channel.specs.declared.ControlWord.{ControlWord}
 use Rattle.channel.specs.declared.PitType.{PitType}
+use Rattle.channel.specs.declared.Reloading.{Reloading}
 use Rattle.channel.specs.Shared.{changeChannelState, changeOutputState, putElement}
 use Rattle.count.specs.Count.{count}
 use Rattle.load.specs.Cycle.{loadValue}
+use Rattle.load.proofs.Value.{value-alike}
 use Rattle.tick.specs.declared.due.Kind.{Kind}
 use Rattle.tick.specs.declared.due.Kind.the-variants.{Idle, Deferred, Load, Reload, Count}
 use Rattle.tick.specs.Due.{due}
@@ -20,8 +23,9 @@ use Rattle.tick.proofs.Keeps.{counts-keep}
 use Rattle.tick.proofs.Counted.{never-kept}
 
 value-kept : {c d : Channel} → TickKeeps c d → loadValue d ≡ loadValue c
-unfolding loadValue
-value-kept p = simp (p .reload-kept, p .reloading-kept)
+value-kept {c} {d} p =
+    value-alike c d
+    (ap (λ (w : ControlWord). w .mode) (p .control-kept)) (p .reload-kept) (ap (λ (r : Reloading). r .«load_mask») (p .reloading-kept))
 
 loaded-element : (level : Bool) (c : Channel) → loaded level c .counter .«counting_element» ≡ loadValue c
 unfolding loaded withArmed changeOutputState changeChannelState putElement

@@ -1,0 +1,41 @@
+-- What a load moves, for those who use it: the reload value whole in every mode but 3, masked by the record's mask in mode 3, never more than the reload value; and
+-- records with the same mode, reload value and mask load the same. Assumes nothing.
+use Prim.Native.Nat.{ℕ, _≤_}
+use mathlib.Core.Path.{_≡_, refl}
+use native.Mathlib.Omega.{arith}
+use lib.Bits.{bitAnd, and-le-l}
+use Rattle.channel.specs.declared.Channel.{Channel}
+use Rattle.channel.specs.declared.ChannelMode.{ChannelMode}
+use Rattle.channel.specs.declared.ChannelMode.the-variants.{SquareWaveGenerator}
+use Rattle.channel.proofs.Modes.{every-mode}
+use Rattle.load.specs.Cycle.{maskedIn, loadValue}
+
+abbrev Whole : ℕ → ℕ → ChannelMode → Type 0
+Whole value mask m = (m ≡ SquareWaveGenerator → ⊥) → maskedIn m value mask ≡ value
+
+whole-in : (value mask : ℕ) (m : ChannelMode) → Whole value mask m
+whole-in value mask =
+    every-mode (Whole value mask) (λ other. refl) (λ other. refl) (λ other. refl) (λ other. absurd (other refl)) (λ other. refl) (λ other. refl)
+
+at-most-in : (value mask : ℕ) (m : ChannelMode) → maskedIn m value mask ≤ value
+at-most-in value mask =
+    every-mode (λ (m : ChannelMode). maskedIn m value mask ≤ value)
+    (omega arith) (omega arith) (omega arith) (and-le-l value mask) (omega arith) (omega arith)
+
+module _ (c : Channel) where
+  pub value-whole : (c .control .mode ≡ SquareWaveGenerator → ⊥) → loadValue c ≡ c .load .«reload_value»
+  unfolding loadValue
+  value-whole = whole-in (c .load .«reload_value») (c .reloading .«load_mask») (c .control .mode)
+
+  pub value-masked : c .control .mode ≡ SquareWaveGenerator → loadValue c ≡ bitAnd (c .load .«reload_value») (c .reloading .«load_mask»)
+  unfolding loadValue
+  value-masked square = rw square refl
+
+  pub value-at-most : loadValue c ≤ c .load .«reload_value»
+  unfolding loadValue
+  value-at-most = at-most-in (c .load .«reload_value») (c .reloading .«load_mask») (c .control .mode)
+
+pub value-alike : (c d : Channel) → d .control .mode ≡ c .control .mode → d .load .«reload_value» ≡ c .load .«reload_value»
+    → d .reloading .«load_mask» ≡ c .reloading .«load_mask» → loadValue d ≡ loadValue c
+unfolding loadValue
+value-alike c d mode reload mask = simp (mode, reload, mask)
