@@ -51,6 +51,8 @@ fn sample() -> Vec<(Record, Operation)> {
     sample.add(&[(READ_STATE, FLAG), (ACCESS, ACCESSES), (LATCHED, FLAG)], &[operation(2, 0, 0); 4]);
     sample.add(&[(ELEMENT, BORROWS), (BCD, FLAG), (LATCHED, FLAG)], &[operation(4, 0, 0)]);
     sample.add(&[(STATE, STATES), (MASK, &[0xFFFF, 0xFFFE, 0x0FF0]), (LATCHED, FLAG), (DIRTY, FLAG)], &[operation(5, 0, 0)]);
+    // A load that is due in every mode (3 is `WaitingForLoadCycle`), with the masks that mode 3 leaves and one that only a record has.
+    sample.add(&[(MODE, MODES), (STATE, &[3]), (MASK, &[0xFFFF, 0xFFFE, 0x00FF])], &[operation(5, 0, 0)]);
     let plain: Vec<Operation> = NAMES.iter().map(|(code, _)| operation(*code, 0, 0)).collect();
     sample.add(&[(MODE, MODES), (STATE, STATES)], &plain);
     while sample.cases.len() < CASES {

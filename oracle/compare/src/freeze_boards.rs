@@ -165,6 +165,22 @@ impl Sample {
         Ok(())
     }
 
+    /// The customer of request L2 on the 8254: mode 3, mode 2 and mode 3 again, 5 loaded and read in each, by hand and by a tick, in both radixes. The mask of mode 3 stays in
+    /// the record all the while.
+    fn customer(&mut self) -> Result<(), String> {
+        for (by_tick, bcd) in [(false, 0), (false, 1), (true, 0), (true, 1)] {
+            let load = if by_tick { vec![operation(7, 0, 12), operation(WORK_OFF, 0, 1)] } else { vec![operation(5, 0, 0)] };
+            let mut board = fresh(1, 12);
+            for mode in [3, 2, 3] {
+                let written = [operation(1, 0x43, 0x10 | mode << 1 | bcd), operation(1, 0x40, 5)];
+                for op in written.iter().chain(&load).chain(&[operation(2, 0x40, 0)]) {
+                    board = self.add(&board, Events::zeros(6), *op)?;
+                }
+            }
+        }
+        Ok(())
+    }
+
     /// Random cases for the rest.
     fn rest(&mut self) -> Result<(), String> {
         while self.bytes.len() < CASE * CASES {
@@ -185,6 +201,7 @@ pub fn answered() -> Result<Vec<u8>, String> {
     sample.limits()?;
     sample.owing()?;
     sample.ticks()?;
+    sample.customer()?;
     sample.rest()?;
     Ok(sample.bytes)
 }

@@ -16,6 +16,7 @@ mod frame;
 mod freeze;
 mod freeze_board_ticks;
 mod freeze_boards;
+mod freeze_lines;
 mod freeze_traces;
 mod judge;
 mod linked;
@@ -48,6 +49,7 @@ const USAGE: &str = "compare [N] [SEED]          N random operations on channels
 compare freeze FILE         write a sample of the original's answers on channels
 compare freeze-boards FILE  the same on boards
 compare freeze-traces FILE  the same on traces
+compare freeze-lines FILE   write what the original's answers print of the traces of traces/
 compare replay FILE         hold ours against such a sample, of channels
 compare replay-boards FILE  the same on boards
 compare replay-traces FILE  the same on traces
@@ -79,6 +81,7 @@ fn done(words: &[&str]) -> Result<bool, String> {
         ["freeze", path] => samples::write("channels", path).map(|()| true),
         ["freeze-boards", path] => samples::write("boards", path).map(|()| true),
         ["freeze-traces", path] => samples::write("traces", path).map(|()| true),
+        ["freeze-lines", path] => samples::write("lines", path).map(|()| true),
         ["replay", path] => freeze::replay(path).map(|differ| differ == 0),
         ["replay-boards", path] => freeze_boards::replay(path).map(|differ| differ == 0),
         ["replay-traces", path] => freeze_traces::replay(path).map(|differ| differ == 0),

@@ -123,10 +123,19 @@ impl Channel {
         self.enter(State::CountingNormal);
     }
 
-    /// "element becomes the load value, the output latch too unless latched (01's load cycle), output becomes the level, armed becomes true". R1: "a load by a tick does not
-    /// reach the output latch"; R2: "a load is not masked"; R9: "armed is not touched".
+    /// "The load mask has a say in mode 3 alone" (T10). R2: "in mode 3 a load by a tick is not masked".
+    fn load_value(&self, rows: &Departures) -> u16 {
+        if self.mode == 3 && !rows.has(2) {
+            self.reload & self.mask
+        } else {
+            self.reload
+        }
+    }
+
+    /// "the element becomes the load value, the output latch too unless latched, the output takes the level, the channel is armed". R1: "a load by a tick does not
+    /// reach the output latch"; R9: "armed is not touched".
     fn take(&mut self, level: bool, rows: &Departures) {
-        self.element = if rows.has(2) { self.reload } else { self.reload & self.mask };
+        self.element = self.load_value(rows);
         if !rows.has(1) {
             self.follow();
         }

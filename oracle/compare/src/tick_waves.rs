@@ -1,5 +1,6 @@
 //! What follows a load, against ours: docs/TICK.md, "What follows, j ticks after the tick that loaded N". A channel is set up by port writes and a trigger, as a host does it, time
-//! passes by runs, and their ticks are worked off; output and counting element are then the table's, for every N at which something could change. No model of a tick takes part.
+//! passes by runs, and their ticks are worked off; output and counting element are then the table's, for every N at which something could change. Each is followed from a fresh board, and
+//! on a channel that was in mode 3 before, whose mask stays in the record. No model of a tick takes part.
 
 use crate::board_fields::BoardField;
 use crate::board_frame::BoardFrame;
@@ -23,6 +24,7 @@ struct Wave {
     model: u8,
     bcd: bool,
     n: u32,
+    after_square: bool,
 }
 
 impl Wave {
@@ -86,9 +88,11 @@ pub fn run(ours: &mut Ours, seed: u64) -> Waves {
     let (mut waves, mut random) = (Waves::default(), Random(seed ^ 0x3A7E));
     let kinds = (0..6).flat_map(|mode| [(0, false), (0, true), (1, false), (1, true)].map(move |(model, bcd)| (mode, model, bcd)));
     for (mode, model, bcd) in kinds {
-        let whole = Wave { mode, model, bcd, n: 1 }.round();
+        let whole = Wave { mode, model, bcd, n: 1, after_square: false }.round();
         for n in (1..=SMALL).chain(LARGE).chain([whole]).filter(|n| *n <= whole && (*n > 1 || !matches!(mode, 2 | 3))) {
-            waves.follow(ours, Wave { mode, model, bcd, n }, &mut random);
+            for after_square in [false, true] {
+                waves.follow(ours, Wave { mode, model, bcd, n, after_square }, &mut random);
+            }
         }
     }
     waves
@@ -123,11 +127,12 @@ fn made(ours: &mut Ours, board: &Board, op: BoardOperation) -> Board {
     ours.call(BoardFrame::operation(board, &Events::zeros(EVENT_ROOM as u8), op)).board()
 }
 
-/// Mode set, both bytes, and in modes 1 and 5 a trigger.
+/// Mode set, both bytes, and in modes 1 and 5 a trigger; before them a mode set to mode 3, where the wave asks for one.
 fn begun(ours: &mut Ours, wave: Wave, c: u16) -> Board {
     let (count, port) = (wave.packed(wave.n), 0x40 + c);
     let control = u32::from(c) << 6 | 0x30 | wave.mode << 1 | u32::from(wave.bcd);
-    let mut operations = vec![operation(1, 0x43, control), operation(1, port, count & 0xFF), operation(1, port, count >> 8)];
+    let mut operations = if wave.after_square { vec![operation(1, 0x43, u32::from(c) << 6 | 0x36)] } else { Vec::new() };
+    operations.extend([operation(1, 0x43, control), operation(1, port, count & 0xFF), operation(1, port, count >> 8)]);
     if matches!(wave.mode, 1 | 5) {
         operations.extend([operation(3, c, 0), operation(3, c, 1)]);
     }

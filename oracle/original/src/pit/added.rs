@@ -1,5 +1,5 @@
 //! What document 01 adds and the original's text does not have, or has otherwise. Each line stands under the sentence of document 01 that
-//! it comes from. What is compared with these three functions rests on document 01 and not on the original.
+//! it comes from; what a load moves is document 02's (L2). What is compared with these functions rests on the documents and not on the original.
 
 use super::*;
 
@@ -43,14 +43,22 @@ pub fn fresh(c: usize, ptype: PitType) -> Channel {
     }
 }
 
+/// What a load moves. L2: "Document 01's load cycle applies a mask that an earlier mode left behind. From now on it masks only in mode 3."
+pub fn load_value(channel: &Channel) -> u16 {
+    match *channel.mode {
+        ChannelMode::SquareWaveGenerator => *channel.reload_value & channel.load_mask,
+        _ => *channel.reload_value,
+    }
+}
+
 /// "*Added* load cycle, until the whole tick exists".
 pub fn load_cycle(channel: &mut Channel) {
     match channel.channel_state {
         // "`DeferLoadCycle` becomes `WaitingForLoadCycle`"; the original's own function enters the state, and so sets cycles in state to 0.
         ChannelState::DeferLoadCycle => channel.change_channel_state(ChannelState::WaitingForLoadCycle),
         ChannelState::WaitingForLoadCycle => {
-            // "`WaitingForLoadCycle` moves the reload value, masked by the load mask, to the counting element"
-            let value = *channel.reload_value & channel.load_mask;
+            // "`WaitingForLoadCycle` moves the reload value .. to the counting element"
+            let value = load_value(channel);
             channel.counting_element.update(value);
             // "copies it to the output latch unless latched"
             if !channel.count_is_latched {

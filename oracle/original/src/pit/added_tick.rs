@@ -66,7 +66,7 @@ impl Channel {
             self.change_output_state(true, bus);
             return;
         }
-        let value = *self.reload_value & self.load_mask;
+        let value = added::load_value(self);
         self.counting_element.update(value);
         if !self.count_is_latched {
             self.output_latch.update(value);
