@@ -15,6 +15,7 @@ use Rattle.channel.specs.Shared.{changeChannelState, changeOutputState}
 use Rattle.load.specs.Finalize.{waitingState, firstState, loadsAgain, completeLoad, enterAfter, finalizeLoad}
 use Rattle.load.proofs.Value.{value-whole, value-masked}
 use Rattle.mode.specs.Mode.{setMode}
+use Rattle.mode.proofs.Mask.{mask-set}
 use Rattle.sheet.specs.Ticking.{held}
 use Rattle.tick.specs.declared.due.Kind.the-variants.{Deferred, Load}
 use Rattle.tick.specs.Due.{triggered, dueIn, due}
@@ -102,7 +103,7 @@ masked-alike model c d same masked square =
 
 pub set-masks : SetMasks
 unfolding setMode
-set-masks model c word square = rw square refl
+set-masks model c word square = mask-set c word model square
 
 -- what the theorem of the ticks after a load asks: a load due, in a channel with the setting of c but the reload value x and the gate at a level
 arrived : (model : PitType) (c d : Channel) (x : ℕ) (gate : Bool) (n : ℕ)

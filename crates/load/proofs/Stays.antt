@@ -1,4 +1,4 @@
--- What a load cycle does not do: "Output never moves", and a held latch stays. Assumes nothing.
+-- What a load cycle does not do: "Output never moves", a held latch stays, and so do the rules that the mode sets left, the load mask among them. Assumes nothing.
 use mathlib.Core.Path.{_≡_, refl}
 use mathlib.Core.Bool.{true}
 use Rattle.channel.specs.declared.Channel.{Channel}
@@ -7,18 +7,29 @@ use Rattle.channel.specs.declared.ChannelState.the-variants.{WaitingForReload, 
 use Rattle.channel.specs.Shared.{changeChannelState, putElement}
 use Rattle.load.specs.Cycle.{cycleIn, loadCycle}
 
-pins-in : (s : ChannelState) (c : Channel) → cycleIn s c .pins ≡ c .pins
-unfolding changeChannelState putElement
-pins-in WaitingForReload c = refl
-pins-in WaitingForGate c = refl
-pins-in DeferLoadCycle c = refl
-pins-in WaitingForLoadCycle c = refl
-pins-in WaitingForLoadTrigger c = refl
-pins-in (Counting f) c = refl
+-- the pins, and what the mode sets left for loads
+abbrev Stay : Channel → Channel → Type 0
+Stay c d = (d .pins ≡ c .pins) × (d .reloading ≡ c .reloading)
 
-pub pins-stay : (c : Channel) → loadCycle c .pins ≡ c .pins
-unfolding loadCycle
-pins-stay c = pins-in (c .counter .«channel_state») c
+stay-in : (s : ChannelState) (c : Channel) → Stay c (cycleIn s c)
+unfolding changeChannelState putElement
+stay-in WaitingForReload c = (refl, refl)
+stay-in WaitingForGate c = (refl, refl)
+stay-in DeferLoadCycle c = (refl, refl)
+stay-in WaitingForLoadCycle c = (refl, refl)
+stay-in WaitingForLoadTrigger c = (refl, refl)
+stay-in (Counting f) c = (refl, refl)
+
+module _ (c : Channel) where
+  stay : Stay c (loadCycle c)
+  unfolding loadCycle
+  stay = stay-in (c .counter .«channel_state») c
+
+  pub pins-stay : loadCycle c .pins ≡ c .pins
+  pins-stay = stay .0
+
+  pub rules-stay : loadCycle c .reloading ≡ c .reloading
+  rules-stay = stay .1
 
 latch-in : (s : ChannelState) (c : Channel) → c .latch .«count_is_latched» ≡ true → cycleIn s c .latch ≡ c .latch
 unfolding changeChannelState putElement
