@@ -17,11 +17,6 @@ whole-in : (value mask : ℕ) (m : ChannelMode) → Whole value mask m
 whole-in value mask =
     every-mode (Whole value mask) (λ other. refl) (λ other. refl) (λ other. refl) (λ other. absurd (other refl)) (λ other. refl) (λ other. refl)
 
-at-most-in : (value mask : ℕ) (m : ChannelMode) → maskedIn m value mask ≤ value
-at-most-in value mask =
-    every-mode (λ (m : ChannelMode). maskedIn m value mask ≤ value)
-    (omega arith) (omega arith) (omega arith) (and-le-l value mask) (omega arith) (omega arith)
-
 module _ (c : Channel) where
   pub value-whole : (c .control .mode ≡ SquareWaveGenerator → ⊥) → loadValue c ≡ c .load .«reload_value»
   unfolding loadValue
@@ -31,9 +26,14 @@ module _ (c : Channel) where
   unfolding loadValue
   value-masked square = rw square refl
 
-  pub value-at-most : loadValue c ≤ c .load .«reload_value»
-  unfolding loadValue
-  value-at-most = at-most-in (c .load .«reload_value») (c .reloading .«load_mask») (c .control .mode)
+at-most-in : (value mask : ℕ) (m : ChannelMode) → maskedIn m value mask ≤ value
+at-most-in value mask =
+    every-mode (λ (m : ChannelMode). maskedIn m value mask ≤ value)
+    (omega arith) (omega arith) (omega arith) (and-le-l value mask) (omega arith) (omega arith)
+
+pub value-at-most : (c : Channel) → loadValue c ≤ c .load .«reload_value»
+unfolding loadValue
+value-at-most c = at-most-in (c .load .«reload_value») (c .reloading .«load_mask») (c .control .mode)
 
 pub value-alike : (c d : Channel) → d .control .mode ≡ c .control .mode → d .load .«reload_value» ≡ c .load .«reload_value»
     → d .reloading .«load_mask» ≡ c .reloading .«load_mask» → loadValue d ≡ loadValue c
