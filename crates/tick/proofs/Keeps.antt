@@ -13,7 +13,6 @@ use Rattle.channel.specs.declared.ReloadFlag.the-variants.{Normal, ReloadNextCy
 use Rattle.channel.specs.Shared.{isCounting, changeChannelState, changeOutputState, putElement}
 use Rattle.channel.proofs.Follows.{held-follows, follows-latched, follows-half}
 use Rattle.count.specs.Count.{nextElement, count}
-use Rattle.load.specs.Cycle.{loadValue}
 use Rattle.tick.specs.declared.due.Kind.{Kind}
 use Rattle.tick.specs.declared.due.Kind.the-variants.{Idle, Deferred, Load, Reload, Count}
 use Rattle.tick.specs.Due.{due}
@@ -128,7 +127,7 @@ keeps-sent-back c = keeps-then (keeps-state c WaitingForLoadCycle) (keeps-output
 keeps-loaded : (level : Bool) (c : Channel) → TickKeeps c (loaded level c)
 unfolding loaded
 keeps-loaded level c =
-    keeps-then (keeps-then (keeps-put c (loadValue c)) (keeps-state _ (Counting Normal))) (keeps-then (keeps-output _ level) (keeps-armed _ true))
+    keeps-then (keeps-then (keeps-put c _) (keeps-state _ (Counting Normal))) (keeps-then (keeps-output _ level) (keeps-armed _ true))
 
 keeps-load : (level : Bool) (c : Channel) → TickKeeps c (loadAt level c)
 unfolding loadAt
