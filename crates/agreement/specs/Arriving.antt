@@ -39,7 +39,7 @@ pub record ComesFirst (c : Channel) (defer : Bool) : Type 0 where
   pub moves : movesAtOnce (c .load .«load_type») c ≡ true
   pub in-time : (defer && heedsDefer (c .load .«load_type») c) ≡ false
 
--- the mask is what it must be after every mode set, from any record
+-- every mode set leaves the mask so, from any record
 abbrev pub SetMasks : Type 0
 SetMasks = (model : PitType) (c : Channel) (word : ControlWord) → SquareMasked model (setMode c word model)
 
@@ -55,13 +55,13 @@ abbrev pub WriteDue : Type 0
 WriteDue = (c : Channel) (defer : Bool) → ComesFirst c defer → due (finalizeLoad c defer) ≡ Load
 
 -- what d has in its element of the count written to c: all of it, whatever mask an earlier mode left; in mode 3 what the record's mask leaves (02, L2)
-pub record Moved (c d : Channel) : Type 0 where
+pub record WriteMoved (c d : Channel) : Type 0 where
   pub whole : (c .control .mode ≡ SquareWaveGenerator → ⊥) → d .counter .«counting_element» ≡ c .load .«count_register»
   pub masked : c .control .mode ≡ SquareWaveGenerator → d .counter .«counting_element» ≡ bitAnd (c .load .«count_register») (c .reloading .«load_mask»)
 
 abbrev pub WriteMoves : Type 0
 WriteMoves = (model : PitType) (c : Channel) (defer : Bool) → ComesFirst c defer → neverLoaded (finalizeLoad c defer) ≡ false
-    → Moved c (tick model (finalizeLoad c defer))
+    → WriteMoved c (tick model (finalizeLoad c defer))
 
 -- the first tick after a write with the defer flag set only puts the load off, to the second
 abbrev pub WriteDeferred : Type 0

@@ -20,6 +20,6 @@ TicksKeep = (model : PitType) (c : Channel) → TickKeeps c (tick model c)
 abbrev pub CountedExactly : Type 0
 CountedExactly = (model : PitType) (c : Channel) → loads model c ≡ false → Kept (times (taken c) count c) (tick model c)
 
--- one that loads leaves in the element the value that document 01's load cycle moves
+-- one that loads leaves the load value in the element, as a load cycle by hand does
 abbrev pub LoadMoves : Type 0
 LoadMoves = (model : PitType) (c : Channel) → loads model c ≡ true → tick model c .counter .«counting_element» ≡ loadValue c

@@ -66,7 +66,7 @@ withArmed c armed =
       armed = armed;
     })
 
--- what 01's load cycle moves, with the output at a level; "A tick that makes a load cycle makes no count"
+-- the load value, as a load cycle by hand moves it, with the output at a level; "A tick that makes a load cycle makes no count"
 unfoldable pub loaded : Bool → Channel → Channel
 loaded level c = withArmed (changeOutputState (changeChannelState (putElement c (loadValue c)) (Counting Normal)) level) true
 

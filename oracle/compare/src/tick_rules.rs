@@ -132,7 +132,7 @@ impl Channel {
         }
     }
 
-    /// "the element becomes the load value, the output latch too unless latched, the output takes the level, the channel is armed". R1: "a load by a tick does not
+    /// "the element becomes the load value .., the output latch too unless latched, the output takes the level, the channel is armed". R1: "a load by a tick does not
     /// reach the output latch"; R9: "armed is not touched".
     fn take(&mut self, level: bool, rows: &Departures) {
         self.element = self.load_value(rows);

@@ -1,6 +1,6 @@
 //! What follows a load, against ours: docs/TICK.md, "What follows, j ticks after the tick that loaded N". A channel is set up by port writes and a trigger, as a host does it, time
-//! passes by runs, and their ticks are worked off; output and counting element are then the table's, for every N at which something could change. Each is followed from a fresh board, and
-//! on a channel that was in mode 3 before, whose mask stays in the record. No model of a tick takes part.
+//! passes by runs, and their ticks are worked off; output and counting element are then the table's, for every N at which something could change. Each is followed from a fresh
+//! board, and on a channel that was in mode 3 before, whose mask stays in the record. No model of a tick takes part.
 
 use crate::board_fields::BoardField;
 use crate::board_frame::BoardFrame;

@@ -1,10 +1,7 @@
--- `load::cycle::masked_in` meets its contract. Assumes nothing.
+-- `load::cycle::masked_in` meets its contract. Each arm is computed, so that a wrong one falls at its equation. Assumes nothing.
 use borrow.Author.Needs.{needs}
 use Rattle.load.proofs.cycle.masked_in.Statement.{statement}
 use Rattle.load.proofs.cycle.masked_in.Tie as tie
-
-returns-4 : tie.Need-returns-4
-returns-4 c = simp (c .enum-told4 .given .1)
 
 pub masked-in-spec : {M : Type 1} → statement M
 masked-in-spec =
@@ -16,9 +13,9 @@ masked-in-spec =
     (λ c. search needs)
     (λ c. search needs)
     (λ c. search needs)
-    (λ c. search needs)
-    (λ c. search needs)
-    (λ c. search needs)
-    returns-4
-    (λ c. search needs)
-    (λ c. search needs))
+    (λ c. simp (c .enum-told .given .1))
+    (λ c. simp (c .enum-told2 .given .1))
+    (λ c. simp (c .enum-told3 .given .1))
+    (λ c. simp (c .enum-told4 .given .1))
+    (λ c. simp (c .enum-told5 .given .1))
+    (λ c. simp (c .enum-told6 .given .1)))
