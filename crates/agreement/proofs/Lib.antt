@@ -33,3 +33,4 @@ pub mod GateHigh
 pub mod GateTicks
 pub mod Waiting
 pub mod Arriving
+pub mod Tracking

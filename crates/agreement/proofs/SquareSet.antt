@@ -1,5 +1,5 @@
--- A channel that makes a square wave of the count n, and its parts that no tick changes: mode, radix, the count as written, the load mask and the gate, which is
--- high. Beside them what a tick does change: state, level and value. Assumes nothing.
+-- A channel that makes a square wave, and its parts that no tick changes: mode, radix, the load mask and the gate, which is high. Beside them what a tick does
+-- change: state, level and value. Assumes nothing.
 use Prim.Native.Nat.{ℕ, _-_, _≤_}
 use mathlib.Core.Bool.{Bool, true}
 use mathlib.Core.Path.{_≡_, refl, ap, _∙_}
@@ -11,7 +11,6 @@ use Rattle.channel.specs.declared.Channel.{Channel}
 use Rattle.channel.specs.declared.ChannelMode.the-variants.{SquareWaveGenerator}
 use Rattle.channel.specs.declared.ChannelState.the-variants.{Counting}
 use Rattle.channel.specs.declared.ControlWord.{ControlWord}
-use Rattle.channel.specs.declared.Load.{Load}
 use Rattle.channel.specs.declared.Pins.{Pins}
 use Rattle.channel.specs.declared.PitType.{PitType}
 use Rattle.channel.specs.declared.PitType.the-variants.{Model8253, Model8254}
@@ -26,20 +25,19 @@ use Rattle.load.proofs.Value.{value-masked}
 use Rattle.mode.specs.Mode.{squareMask}
 use Rattle.tick.specs.Tick.{withArmed, loaded, loadAt}
 use Rattle.sheet.specs.Ticking.{held}
-use Rattle.agreement.proofs.HeldCounts.{counts-held, counts-reloading, counts-load, counts-pins, counts-state}
+use Rattle.agreement.proofs.HeldCounts.{counts-held, counts-reloading, counts-pins, counts-state}
 use Rattle.agreement.proofs.SquareHeld.{held-not-one, whole-mask, odd-mask}
 use Rattle.agreement.proofs.SquareValue.{loadedCount}
 
-pub record Set (model : PitType) (bcd : Bool) (n : ℕ) (d : Channel) : Type 0 where
+pub record Set (model : PitType) (bcd : Bool) (d : Channel) : Type 0 where
   pub mode-is : d .control .mode ≡ SquareWaveGenerator
   pub radix-is : d .control .«bcd_mode» ≡ bcd
-  pub written : d .load .«reload_value» ≡ held bcd n
   pub masked : d .reloading .«load_mask» ≡ squareMask model
   pub gate-high : d .pins .gate ≡ true
 
 -- .. that counts, with the output at a level and v in its counter
-pub record At (model : PitType) (bcd : Bool) (n : ℕ) (flag : ReloadFlag) (high : Bool) (v : ℕ) (d : Channel) : Type 0 where
-  pub set : Set model bcd n d
+pub record At (model : PitType) (bcd : Bool) (flag : ReloadFlag) (high : Bool) (v : ℕ) (d : Channel) : Type 0 where
+  pub set : Set model bcd d
   pub state-is : d .counter .«channel_state» ≡ Counting flag
   pub level-is : d .pins .output ≡ high
   pub element-is : d .counter .«counting_element» ≡ held bcd v
@@ -48,26 +46,24 @@ mask-leaves : (model : PitType) (bcd : Bool) (n : ℕ) → bitAnd (held bcd n) (
 mask-leaves Model8253 bcd n = whole-mask bcd n
 mask-leaves Model8254 bcd n = odd-mask bcd n
 
-module _ (model : PitType) (bcd : Bool) (n : ℕ) where
-  -- what has the same mode and radix, load mask, written count and gate is set alike
-  pub set-kept : (c d : Channel) → d .control ≡ c .control → d .reloading ≡ c .reloading
-      → d .load .«reload_value» ≡ c .load .«reload_value» → d .pins .gate ≡ c .pins .gate → Set model bcd n c → Set model bcd n d
-  set-kept c d control reloading reload gate h =
+module _ (model : PitType) (bcd : Bool) where
+  -- what has the same mode and radix, load mask and gate is set alike
+  pub set-kept : (c d : Channel) → d .control ≡ c .control → d .reloading ≡ c .reloading → d .pins .gate ≡ c .pins .gate
+      → Set model bcd c → Set model bcd d
+  set-kept c d control reloading gate h =
       record {
         mode-is = ap (λ (w : ControlWord). w .mode) control ∙ h .mode-is;
         radix-is = ap (λ (w : ControlWord). w .«bcd_mode») control ∙ h .radix-is;
-        written = reload ∙ h .written;
         masked = ap (λ (r : Reloading). r .«load_mask») reloading ∙ h .masked;
         gate-high = gate ∙ h .gate-high;
       }
 
   -- k counts take k from the value, and change nothing else of this
   pub counted : (flag : ReloadFlag) (high : Bool) (v k : ℕ) (d : Channel) → k ≤ v → v ≤ radixCounts bcd
-      → At model bcd n flag high v d → At model bcd n flag high (v - k) (times k count d)
+      → At model bcd flag high v d → At model bcd flag high (v - k) (times k count d)
   counted flag high v k d few most h =
       record {
-        set = set-kept d (times k count d) (control-kept k d) (counts-reloading k d) (ap (λ (l : Load). l .«reload_value») (counts-load k d))
-            (ap (λ (p : Pins). p .gate) (counts-pins k d)) (h .set);
+        set = set-kept d (times k count d) (control-kept k d) (counts-reloading k d) (ap (λ (p : Pins). p .gate) (counts-pins k d)) (h .set);
         state-is = counts-state k d ∙ h .state-is;
         level-is = ap (λ (p : Pins). p .output) (counts-pins k d) ∙ h .level-is;
         element-is =
@@ -75,17 +71,17 @@ module _ (model : PitType) (bcd : Bool) (n : ℕ) where
             ∙ ap (λ (b : Bool). held b (v - k)) (h .set .radix-is);
       }
 
-  value-loaded : (d : Channel) → Set model bcd n d → loadValue d ≡ held bcd (loadedCount model n)
-  value-loaded d h = value-masked d (h .mode-is) ∙ rw (h .written, h .masked) (mask-leaves model bcd n)
+  -- what a load moves of the count n, and leaves
+  module _ (n : ℕ) (level : Bool) (d : Channel) (written : d .load .«reload_value» ≡ held bcd n) (h : Set model bcd d) where
+    value-loaded : loadValue d ≡ held bcd (loadedCount model n)
+    value-loaded = value-masked d (h .mode-is) ∙ rw (written, h .masked) (mask-leaves model bcd n)
 
-  loaded-at : (level : Bool) (d : Channel) → Set model bcd n d → At model bcd n Normal level (loadedCount model n) (loaded level d)
-  unfolding loaded withArmed changeOutputState changeChannelState putElement
-  loaded-at level d h =
-      record { set = set-kept d (loaded level d) refl refl refl refl h; state-is = refl; level-is = refl; element-is = value-loaded d h }
+    loaded-at : At model bcd Normal level (loadedCount model n) (loaded level d)
+    unfolding loaded withArmed changeOutputState changeChannelState putElement
+    loaded-at =
+        record { set = set-kept d (loaded level d) refl refl refl h; state-is = refl; level-is = refl; element-is = value-loaded }
 
-  -- a load of a count from 2 on, at a level
-  pub load-at : (level : Bool) (d : Channel) → 2 ≤ n → n ≤ radixCounts bcd → Set model bcd n d
-      → At model bcd n Normal level (loadedCount model n) (loadAt level d)
-  unfolding loadAt
-  load-at level d least most h =
-      simp (h .mode-is, h .written, ne-eqb (held bcd n) 1 (held-not-one bcd n least most)) (loaded-at level d h)
+    -- a load of a count from 2 on, at a level
+    pub load-at : 2 ≤ n → n ≤ radixCounts bcd → At model bcd Normal level (loadedCount model n) (loadAt level d)
+    unfolding loadAt
+    load-at least most = simp (h .mode-is, written, ne-eqb (held bcd n) 1 (held-not-one bcd n least most)) loaded-at

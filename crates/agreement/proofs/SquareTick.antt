@@ -10,6 +10,7 @@ use Rattle.numbers.specs.Times.{times}
 use Rattle.numbers.specs.Radix.{radixCounts}
 use Rattle.channel.specs.declared.Channel.{Channel}
 use Rattle.channel.specs.declared.ChannelState.the-variants.{Counting}
+use Rattle.channel.specs.declared.Load.{Load}
 use Rattle.channel.specs.declared.PitType.{PitType}
 use Rattle.channel.specs.declared.ReloadFlag.{ReloadFlag}
 use Rattle.channel.specs.declared.ReloadFlag.the-variants.{Normal, ReloadNextCycle}
@@ -20,6 +21,7 @@ use Rattle.tick.specs.Due.{due}
 use Rattle.tick.specs.Taken.{squareTakes}
 use Rattle.tick.specs.Tick.{agedBy, withArmed, loadAt, halfOver, countingOn, marked, afterCounts, tick}
 use Rattle.sheet.specs.Ticking.{held}
+use Rattle.agreement.proofs.HeldCounts.{counts-load}
 use Rattle.agreement.proofs.SquareHeld.{held-parity, held-above}
 use Rattle.agreement.proofs.SquareValue.{loadedCount, waitsAtZero}
 use Rattle.agreement.proofs.SquareSet.{At, set-kept, counted, load-at}
@@ -38,29 +40,29 @@ on-counting : (flag : ReloadFlag) (d : Channel) → d .counter .«channel_state�
 unfolding countingOn
 on-counting flag d e = simp e
 
-module _ (model : PitType) (bcd : Bool) (n : ℕ) (least : 2 ≤ n) (most : n ≤ radixCounts bcd) where
+module _ (model : PitType) (bcd : Bool) where
   module _ (high : Bool) (v : ℕ) (d : Channel) where
     -- a tick that counts
-    count-due : At model bcd n Normal high v d → due d ≡ Count
+    count-due : At model bcd Normal high v d → due d ≡ Count
     unfolding due
     count-due h = simp (h .state-is, h .set .mode-is, h .set .gate-high)
 
-    tick-counts : At model bcd n Normal high v d → tick model d ≡ afterCounts model (times (squareTakes high v) count d)
+    tick-counts : At model bcd Normal high v d → tick model d ≡ afterCounts model (times (squareTakes high v) count d)
     unfolding tick
     tick-counts h = simp (count-due h, h .set .mode-is, h .level-is, h .element-is, held-parity)
 
     -- .. to a value above zero
-    above-zero : At model bcd n Normal high v d → 0 < v → v < radixCounts bcd → afterCounts model d ≡ agedBy 1 (marked d)
+    above-zero : At model bcd Normal high v d → 0 < v → v < radixCounts bcd → afterCounts model d ≡ agedBy 1 (marked d)
     unfolding afterCounts
     above-zero h pos small =
         let some-left : held bcd v ≡ 0 → ⊥ = λ z. omega (arith, held-above bcd v pos small) in
         simp (h .set .mode-is, h .element-is, ne-eqb (held bcd v) 0 some-left, on-counting Normal (marked d) (marked-state d ∙ h .state-is))
 
-    marked-at : At model bcd n Normal high v d → At model bcd n Normal high v (agedBy 1 (marked d))
+    marked-at : At model bcd Normal high v d → At model bcd Normal high v (agedBy 1 (marked d))
     unfolding agedBy marked withArmed changeOutputState
     marked-at h =
         record {
-          set = set-kept model bcd n d (agedBy 1 (marked d)) refl refl refl refl (h .set);
+          set = set-kept model bcd d (agedBy 1 (marked d)) refl refl refl (h .set);
           state-is = h .state-is;
           level-is = simp (h .set .mode-is) (h .level-is);
           element-is = h .element-is;
@@ -68,64 +70,71 @@ module _ (model : PitType) (bcd : Bool) (n : ℕ) (least : 2 ≤ n) (most : n �
 
   module _ (high : Bool) (d : Channel) where
     -- .. to zero, where the half ends
-    at-zero : At model bcd n Normal high 0 d → afterCounts model d ≡ halfOver model d
+    at-zero : At model bcd Normal high 0 d → afterCounts model d ≡ halfOver model d
     unfolding afterCounts
     at-zero h = simp (h .set .mode-is, h .element-is, held-zero bcd)
 
     -- .. at once
-    over-now : At model bcd n Normal high 0 d → waitsAtZero model n high ≡ false → halfOver model d ≡ loadAt (not high) d
+    over-now : At model bcd Normal high 0 d → waitsAtZero model (d .load .«reload_value») high ≡ false → halfOver model d ≡ loadAt (not high) d
     unfolding halfOver
-    over-now h now = simp (h .level-is, h .set .written, held-parity, now)
+    over-now h now = simp (h .level-is, now)
 
     -- .. or one tick later
-    over-later : At model bcd n Normal high 0 d → waitsAtZero model n high ≡ true
+    over-later : At model bcd Normal high 0 d → waitsAtZero model (d .load .«reload_value») high ≡ true
         → halfOver model d ≡ changeChannelState d (Counting ReloadNextCycle)
     unfolding halfOver
-    over-later h later = simp (h .level-is, h .set .written, held-parity, later)
+    over-later h later = simp (h .level-is, later)
 
-    waiting-at : At model bcd n Normal high 0 d → At model bcd n ReloadNextCycle high 0 (changeChannelState d (Counting ReloadNextCycle))
+    waiting-at : At model bcd Normal high 0 d → At model bcd ReloadNextCycle high 0 (changeChannelState d (Counting ReloadNextCycle))
     unfolding changeChannelState
     waiting-at h =
         record {
-          set = set-kept model bcd n d (changeChannelState d (Counting ReloadNextCycle)) refl refl refl refl (h .set);
+          set = set-kept model bcd d (changeChannelState d (Counting ReloadNextCycle)) refl refl refl (h .set);
           state-is = refl;
           level-is = h .level-is;
           element-is = h .element-is;
         }
 
     -- the tick after zero
-    reload-due : At model bcd n ReloadNextCycle high 0 d → due d ≡ Reload
+    reload-due : At model bcd ReloadNextCycle high 0 d → due d ≡ Reload
     unfolding due
     reload-due h = simp (h .state-is, h .set .mode-is, h .set .gate-high)
 
-    pub reloads : At model bcd n ReloadNextCycle high 0 d → At model bcd n Normal (not high) (loadedCount model n) (tick model d)
+    pub reloads : At model bcd ReloadNextCycle high 0 d → (n : ℕ) → d .load .«reload_value» ≡ held bcd n → 2 ≤ n → n ≤ radixCounts bcd
+        → At model bcd Normal (not high) (loadedCount model n) (tick model d)
     unfolding tick
-    reloads h = simp (reload-due h, h .set .mode-is, h .level-is) (load-at model bcd n (not high) d least most (h .set))
+    reloads h n written least most =
+        simp (reload-due h, h .set .mode-is, h .level-is) (load-at model bcd n (not high) d written (h .set) least most)
 
   -- a tick that takes t
-  module _ (high : Bool) (v t : ℕ) (d : Channel) (top : v ≤ radixCounts bcd) (takes : squareTakes high v ≡ t) (h : At model bcd n Normal high v d) where
+  module _ (high : Bool) (v t : ℕ) (d : Channel) (top : v ≤ radixCounts bcd) (takes : squareTakes high v ≡ t) (h : At model bcd Normal high v d) where
     tick-takes : tick model d ≡ afterCounts model (times t count d)
     tick-takes = tick-counts high v d h ∙ ap (λ (k : ℕ). afterCounts model (times k count d)) takes
 
-    left-over : (w : ℕ) → w + t ≡ v → At model bcd n Normal high w (times t count d)
+    left-over : (w : ℕ) → w + t ≡ v → At model bcd Normal high w (times t count d)
     left-over w e =
         let k : v - t ≡ w = omega arith in
-        subst (λ (x : ℕ). At model bcd n Normal high x (times t count d)) k (counted model bcd n Normal high v t d (omega arith) top h)
+        subst (λ (x : ℕ). At model bcd Normal high x (times t count d)) k (counted model bcd Normal high v t d (omega arith) top h)
+
+    same-reload : times t count d .load .«reload_value» ≡ d .load .«reload_value»
+    same-reload = ap (λ (l : Load). l .«reload_value») (counts-load t d)
 
     -- and leaves w
-    pub goes-on : (w : ℕ) → w + t ≡ v → 0 < t → 0 < w → At model bcd n Normal high w (tick model d)
+    pub goes-on : (w : ℕ) → w + t ≡ v → 0 < t → 0 < w → At model bcd Normal high w (tick model d)
     goes-on w e some left =
-        let a : At model bcd n Normal high w (times t count d) = left-over w e in
+        let a : At model bcd Normal high w (times t count d) = left-over w e in
         rw (tick-takes, above-zero high w (times t count d) a left (omega arith)) (marked-at high w (times t count d) a)
 
-    -- and leaves none: the half ends at once, or one tick later
-    pub ends : t ≡ v → waitsAtZero model n high ≡ false → At model bcd n Normal (not high) (loadedCount model n) (tick model d)
-    ends e now =
-        let a : At model bcd n Normal high 0 (times t count d) = left-over 0 (omega arith) in
-        rw (tick-takes, at-zero high (times t count d) a, over-now high (times t count d) a now)
-        (load-at model bcd n (not high) (times t count d) least most (a .set))
+    -- and leaves none: the half ends at once, and the count that is written then is loaded, or one tick later
+    pub ends : t ≡ v → waitsAtZero model (d .load .«reload_value») high ≡ false
+        → (n : ℕ) → d .load .«reload_value» ≡ held bcd n → 2 ≤ n → n ≤ radixCounts bcd
+        → At model bcd Normal (not high) (loadedCount model n) (tick model d)
+    ends e now n written least most =
+        let a : At model bcd Normal high 0 (times t count d) = left-over 0 (omega arith) in
+        rw (tick-takes, at-zero high (times t count d) a, over-now high (times t count d) a (rw same-reload now))
+        (load-at model bcd n (not high) (times t count d) (same-reload ∙ written) (a .set) least most)
 
-    pub lingers : t ≡ v → waitsAtZero model n high ≡ true → At model bcd n ReloadNextCycle high 0 (tick model d)
+    pub lingers : t ≡ v → waitsAtZero model (d .load .«reload_value») high ≡ true → At model bcd ReloadNextCycle high 0 (tick model d)
     lingers e later =
-        let a : At model bcd n Normal high 0 (times t count d) = left-over 0 (omega arith) in
-        rw (tick-takes, at-zero high (times t count d) a, over-later high (times t count d) a later) (waiting-at high (times t count d) a)
+        let a : At model bcd Normal high 0 (times t count d) = left-over 0 (omega arith) in
+        rw (tick-takes, at-zero high (times t count d) a, over-later high (times t count d) a (rw same-reload later)) (waiting-at high (times t count d) a)

@@ -4,3 +4,4 @@ pub mod Ticking
 pub mod Gating
 pub mod Waiting
 pub mod Arriving
+pub mod Watching

@@ -5,3 +5,4 @@ pub mod Loading
 pub mod Output
 pub mod Gate
 pub mod Ticking
+pub mod Counter
