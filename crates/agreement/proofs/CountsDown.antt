@@ -31,7 +31,7 @@ use Rattle.agreement.proofs.AfterLoad.{radix-after, mode-after, runs-af
 abbrev pub countsDown : ChannelMode → Bool
 countsDown = byMode true true false false true true
 
-every-down : (P : ChannelMode → Type 0)
+pub every-down : (P : ChannelMode → Type 0)
     → P InterruptOnTerminalCount → P HardwareRetriggerableOneShot → P SoftwareTriggeredStrobe → P HardwareTriggeredStrobe
     → (m : ChannelMode) → countsDown m ≡ true → P m
 every-down P p0 p1 p4 p5 InterruptOnTerminalCount down = p0
@@ -42,10 +42,10 @@ every-down P p0 p1 p4 p5 SoftwareTriggeredStrobe down = p4
 every-down P p0 p1 p4 p5 HardwareTriggeredStrobe down = p5
 
 -- what that means for the tick's tables
-any-loaded : (m : ChannelMode) → countsDown m ≡ true → doesRetrigger m ≡ false
+pub any-loaded : (m : ChannelMode) → countsDown m ≡ true → doesRetrigger m ≡ false
 any-loaded = every-down (λ (m : ChannelMode). doesRetrigger m ≡ false) refl refl refl refl
 
-not-square : (m : ChannelMode) → countsDown m ≡ true → m ≡ SquareWaveGenerator → ⊥
+pub not-square : (m : ChannelMode) → countsDown m ≡ true → m ≡ SquareWaveGenerator → ⊥
 not-square m down square = false≢true (sym (ap countsDown square) ∙ down)
 
 one-taken : (square : ℕ) (m : ChannelMode) → countsDown m ≡ true → byMode 1 1 1 square 1 1 m ≡ 1
@@ -72,7 +72,7 @@ tick-down model c down goes running =
     (no-half (count c .counter .«counting_element») (c .control .mode) down)
 
 -- one count, after j
-count-down : (bcd : Bool) (n j : ℕ) (c : Channel) → c .control .«bcd_mode» ≡ bcd → c .counter .«counting_element» ≡ held bcd (downValue bcd n j)
+pub count-down : (bcd : Bool) (n j : ℕ) (c : Channel) → c .control .«bcd_mode» ≡ bcd → c .counter .«counting_element» ≡ held bcd (downValue bcd n j)
     → count c .counter .«counting_element» ≡ held bcd (downValue bcd n (suc j))
 count-down bcd n j c radix e =
     counts-round bcd (downValue bcd n j) 1 c radix e

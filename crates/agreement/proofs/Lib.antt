@@ -33,4 +33,9 @@ pub mod GateHigh
 pub mod GateTicks
 pub mod Waiting
 pub mod Arriving
+pub mod TickWaits
+pub mod Written
 pub mod Tracking
+pub mod TrackDown
+pub mod TrackRate
+pub mod TrackSquare

@@ -35,7 +35,7 @@ last-place n j least one =
     let e : suc (j % n) ≡ n = omega arith in
     rw (suc-mod j n, e, mod-self n) (sub-zero n)
 
-next-place : (n j : ℕ) → 2 ≤ n → (rateValue n j ≡ 1 → ⊥) → rateValue n (suc j) ≡ rateValue n j - 1
+pub next-place : (n j : ℕ) → 2 ≤ n → (rateValue n j ≡ 1 → ⊥) → rateValue n (suc j) ≡ rateValue n j - 1
 next-place n j least other =
     let b : j % n < n = mod-lt j (omega arith) in
     let h : suc (j % n) < n = omega arith in
@@ -51,7 +51,7 @@ not-square : {m : ChannelMode} → m ≡ RateGenerator → m ≡ SquareWaveGener
 not-square rate square = let z : _≡_ {A = ℕ} 0 1 = cc in omega arith
 
 -- what a load of n leaves, at a level that is high
-rate-loaded : (bcd : Bool) (n : ℕ) (level : Bool) (c d : Channel) → 2 ≤ n → LoadedAt level c d → level ≡ true → c .control .mode ≡ RateGenerator
+pub rate-loaded : (bcd : Bool) (n : ℕ) (level : Bool) (c d : Channel) → 2 ≤ n → LoadedAt level c d → level ≡ true → c .control .mode ≡ RateGenerator
     → c .load .«reload_value» ≡ held bcd n → RateAt bcd n d
 rate-loaded bcd n level c d least moved high mode written =
     record {
@@ -61,7 +61,7 @@ rate-loaded bcd n level c d least moved high mode written =
     }
 
 -- a count of 2 or more may be loaded
-rate-may : (bcd : Bool) (n : ℕ) (c : Channel) → 2 ≤ n → n ≤ radixCounts bcd → c .control .mode ≡ RateGenerator → c .load .«reload_value» ≡ held bcd n
+pub rate-may : (bcd : Bool) (n : ℕ) (c : Channel) → 2 ≤ n → n ≤ radixCounts bcd → c .control .mode ≡ RateGenerator → c .load .«reload_value» ≡ held bcd n
     → neverLoaded c ≡ false
 rate-may bcd n c least most mode written = rw (mode, written) (held-one bcd n most ∙ ne-eqb n 1 (λ q. omega arith))
 
@@ -74,7 +74,7 @@ module _ (model : PitType) (bcd : Bool) (v : ℕ) (c : Channel) (mode : c .contr
   at-mark : reloadsFrom (c .control .mode) (c .counter .«counting_element») ≡ eqb v 1
   at-mark = rw (mode, now .rate-value) (held-one bcd v most)
 
-  rate-reloads : (n : ℕ) → 2 ≤ n → n ≤ radixCounts bcd → c .load .«reload_value» ≡ held bcd n → v ≡ 1 → RateAt bcd n (tick model c)
+  pub rate-reloads : (n : ℕ) → 2 ≤ n → n ≤ radixCounts bcd → c .load .«reload_value» ≡ held bcd n → v ≡ 1 → RateAt bcd n (tick model c)
   rate-reloads n least at-most written one =
       let is-due : due c ≡ Reload = due-reload c goes running (at-mark ∙ eq-eqb v 1 one) in
       let may : neverLoaded c ≡ false = rate-may bcd n c least at-most mode written in
@@ -84,7 +84,7 @@ module _ (model : PitType) (bcd : Bool) (v : ℕ) (c : Channel) (mode : c .contr
   rate-step : (v ≡ 1 → ⊥) → CountedTo (count c .counter .«counting_element») c (tick model c)
   rate-step other = tick-counts c goes model (due-count c goes running (at-mark ∙ ne-eqb v 1 other)) (rw mode refl) (rw mode refl)
 
-  rate-counts : c .control .«bcd_mode» ≡ bcd → 1 ≤ v → (v ≡ 1 → ⊥) → RateAt bcd (v - 1) (tick model c)
+  pub rate-counts : c .control .«bcd_mode» ≡ bcd → 1 ≤ v → (v ≡ 1 → ⊥) → RateAt bcd (v - 1) (tick model c)
   rate-counts radix least other =
       let e : count c .counter .«counting_element» ≡ held bcd (v - 1) = counts-round bcd v 1 c radix (now .rate-value) ∙ held-minus bcd v 1 least in
       let step : CountedTo (held bcd (v - 1)) c (tick model c) = rw e at (rate-step other) in

@@ -71,15 +71,17 @@ module _ (model : PitType) (bcd : Bool) where
             ∙ ap (λ (b : Bool). held b (v - k)) (h .set .radix-is);
       }
 
-  -- what a load moves of the count n, and leaves
-  module _ (n : ℕ) (level : Bool) (d : Channel) (written : d .load .«reload_value» ≡ held bcd n) (h : Set model bcd d) where
-    value-loaded : loadValue d ≡ held bcd (loadedCount model n)
-    value-loaded = value-masked d (h .mode-is) ∙ rw (written, h .masked) (mask-leaves model bcd n)
+  -- what a load moves of the count n
+  pub value-loaded : (n : ℕ) (d : Channel) → d .control .mode ≡ SquareWaveGenerator → d .reloading .«load_mask» ≡ squareMask model
+      → d .load .«reload_value» ≡ held bcd n → loadValue d ≡ held bcd (loadedCount model n)
+  value-loaded n d square masked written = value-masked d square ∙ rw (written, masked) (mask-leaves model bcd n)
 
+  -- .. and leaves
+  module _ (n : ℕ) (level : Bool) (d : Channel) (written : d .load .«reload_value» ≡ held bcd n) (h : Set model bcd d) where
     loaded-at : At model bcd Normal level (loadedCount model n) (loaded level d)
     unfolding loaded withArmed changeOutputState changeChannelState putElement
     loaded-at =
-        record { set = set-kept d (loaded level d) refl refl refl h; state-is = refl; level-is = refl; element-is = value-loaded }
+        record { set = set-kept d (loaded level d) refl refl refl h; state-is = refl; level-is = refl; element-is = value-loaded n d (h .mode-is) (h .masked) written }
 
     -- a load of a count from 2 on, at a level
     pub load-at : 2 ≤ n → n ≤ radixCounts bcd → At model bcd Normal level (loadedCount model n) (loadAt level d)

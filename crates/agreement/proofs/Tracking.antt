@@ -27,7 +27,7 @@ use Rattle.channel.specs.Queries.{doesRetrigger}
 use Rattle.mode.specs.Mode.{squareMask}
 use Rattle.tick.specs.Due.{triggered}
 use Rattle.sheet.specs.Gate.{fallEffect}
-use Rattle.sheet.specs.Ticking.{held, downValue, rateValue, rateHigh, highFrom, valueAfter, smallest}
+use Rattle.sheet.specs.Ticking.{held, downValue, rateValue, rateHigh, highFrom, valueAfter, outputAfter, smallest}
 use Rattle.sheet.specs.Counter.{Fixed, leftOpen, fixedAt, Phase, awaitsCount, awaitsTrigger, loading, counting, lost, Counter}
 use Rattle.agreement.specs.Words.{sheetAccess}
 use Rattle.agreement.specs.Ticking.{sheetChip}
@@ -186,6 +186,13 @@ pub record Counts (model : PitType) (c : Core) (n j : ℕ) : Type 0 where
   pub at-least : smallest (modeNumber (c .control .mode)) ≤ n
   pub at-most : n ≤ radixCounts (c .control .«bcd_mode»)
   pub there : Standing model c n j
+
+-- a channel that stands there, and shows what the sheets say of it
+pub record Arrived (model : PitType) (c : Channel) (n j : ℕ) : Type 0 where
+  pub counts : Counts model (coreOf c) n j
+  pub shows-output : c .pins .output ≡ outputAfter (modeNumber (c .control .mode)) n j
+  pub shows-value : c .counter .«counting_element»
+      ≡ held (c .control .«bcd_mode») (valueAfter (sheetChip model) (c .control .«bcd_mode») (modeNumber (c .control .mode)) n j)
 
 -- whether a count has come
 abbrev pub LostIn : LoadType → Core → Type 0

@@ -31,17 +31,16 @@ abbrev pub watchReset : Watch → Watch
 watchReset w = unprogrammed (gateOf w) (fixedAt false)
 
 -- S1: a tick that puts a load off, "one tick later once the board's defer flag is set"; it loads nothing and counts nothing
-abbrev pub tickLate : Bool → Phase → Chip → Counter → Counter
-tickLate true loading chip k = rest k
-tickLate true awaitsCount chip k = tick chip k
-tickLate true awaitsTrigger chip k = tick chip k
-tickLate true (counting n j) chip k = tick chip k
-tickLate true lost chip k = tick chip k
-tickLate false p chip k = tick chip k
+abbrev pub tickLate : Phase → Bool → Chip → Counter → Counter
+tickLate loading late chip k = cond late (rest k) (tick chip k)
+tickLate awaitsCount late chip k = tick chip k
+tickLate awaitsTrigger late chip k = tick chip k
+tickLate (counting n j) late chip k = tick chip k
+tickLate lost late chip k = tick chip k
 
 abbrev pub watchTick : Chip → Watch → Watch
 watchTick chip (unprogrammed gate one) = unprogrammed gate one
-watchTick chip (watching k late one) = watching (tickLate late (k .phase) chip k) false one
+watchTick chip (watching k late one) = watching (tickLate (k .phase) late chip k) false one
 
 -- S2, S3: "a load that is due when the gate falls" in modes 2, 3 and 4 is put off or forgotten
 abbrev pub losesLoad : ℕ → Phase → Bool
