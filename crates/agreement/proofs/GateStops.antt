@@ -29,7 +29,7 @@ use Rattle.agreement.proofs.Gate.{level-kept}
 use Rattle.agreement.proofs.Idling.{ticks-stand}
 
 -- a channel that has a count underway and does not run is idle
-idle-in : (s : ChannelState) (c : Channel) → underway s ≡ true → runs c ≡ false → dueIn s c ≡ Idle
+pub idle-in : (s : ChannelState) (c : Channel) → underway s ≡ true → runs c ≡ false → dueIn s c ≡ Idle
 idle-in WaitingForReload c going still = refl
 idle-in WaitingForGate c going still = simp still
 idle-in DeferLoadCycle c going still = absurd (false≢true going)

@@ -47,7 +47,7 @@ idle-output : (c : Channel) → idle c .pins .output ≡ restLevel (c .control .
 unfolding idle agedBy changeOutputState
 idle-output c = refl
 
-tick-idle : (model : PitType) (c : Channel) → due c ≡ Idle → tick model c ≡ idle c
+pub tick-idle : (model : PitType) (c : Channel) → due c ≡ Idle → tick model c ≡ idle c
 unfolding tick
 tick-idle model c still = rw still refl
 

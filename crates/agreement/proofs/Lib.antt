@@ -39,3 +39,5 @@ pub mod Tracking
 pub mod TrackDown
 pub mod TrackRate
 pub mod TrackSquare
+pub mod TrackRest
+pub mod TrackTick

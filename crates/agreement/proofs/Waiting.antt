@@ -51,7 +51,7 @@ stands model c still j =
       pulse-ends = λ pulse. idling.output-rests model c still j ∙ ends (c .pins .output) (c .control .mode) pulse;
     }
 
-reload-idle : (c : Channel) → c .counter .«channel_state» ≡ WaitingForReload → due c ≡ Idle
+pub reload-idle : (c : Channel) → c .counter .«channel_state» ≡ WaitingForReload → due c ≡ Idle
 unfolding due
 reload-idle c waits = rw waits refl
 
