@@ -41,3 +41,4 @@ pub mod TrackRate
 pub mod TrackSquare
 pub mod TrackRest
 pub mod TrackTick
+pub mod TrackGate

@@ -45,7 +45,7 @@ begins-inside true n least = omega arith
 begins-inside false n least = omega arith
 
 -- the sheets' value there
-value-there : (model : PitType) (high : Bool) (n j s : ℕ) → Stands n j high s → squareValue (sheetChip model) n j ≡ halfValue (sheetChip model) n high s
+pub value-there : (model : PitType) (high : Bool) (n j s : ℕ) → Stands n j high s → squareValue (sheetChip model) n j ≡ halfValue (sheetChip model) n high s
 value-there model high n j s stands =
     ap₂ (λ (h : Bool) (a : ℕ). halfValue (sheetChip model) n h a) (high-there high n j s stands) (since-there high n j s stands)
 

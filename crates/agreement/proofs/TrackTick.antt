@@ -81,7 +81,7 @@ due-load WaitingForLoadCycle c waits = refl
 due-load WaitingForLoadTrigger c waits = simp waits
 due-load (Counting f) c waits = absurd waits
 
-load-come : (s : ChannelState) (m : ChannelMode) → LoadDue s m → waitsForReload s ≡ false
+pub load-come : (s : ChannelState) (m : ChannelMode) → LoadDue s m → waitsForReload s ≡ false
 load-come WaitingForReload m waits = absurd waits
 load-come WaitingForGate m waits = absurd waits
 load-come DeferLoadCycle m waits = absurd waits
@@ -283,7 +283,7 @@ module _ (model : PitType) (c : Channel) (one : Fixed Bool) (rules : Rules model
   -- a lost counter
   lost-in : (t : LoadType) → c .load .«load_type» ≡ t → LostIn t (coreOf c) → LostIn (tick model c .load .«load_type») (coreOf (tick model c))
   lost-in InitialLoad type waits =
-      rw (keeps .load-type-kept ∙ type) (state-stands model c (reload-idle c waits) 1 ∙ waits)
+      rw (keeps .load-type-kept ∙ type) (state-stands model c (reload-idle c (waits .0)) 1 ∙ waits .0, rw (keeps .control-kept) (waits .1))
   lost-in SubsequentLoad type has =
       rw (keeps .load-type-kept ∙ type)
       (λ other. still-come model c (has (λ mode. other (rw (keeps .control-kept) mode))))

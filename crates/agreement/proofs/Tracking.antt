@@ -196,7 +196,7 @@ pub record Arrived (model : PitType) (c : Channel) (n j : ℕ) : Type 0 where
 
 -- whether a count has come
 abbrev pub LostIn : LoadType → Core → Type 0
-LostIn InitialLoad c = c .state ≡ WaitingForReload
+LostIn InitialLoad c = (c .state ≡ WaitingForReload) × (fallEffect (modeNumber (c .control .mode)) .raises ≡ false)
 LostIn SubsequentLoad c = (c .control .mode ≡ InterruptOnTerminalCount → ⊥) → waitsForReload (c .state) ≡ false
 
 abbrev pub PhaseAt : Phase → Bool → PitType → Core → Type 0
