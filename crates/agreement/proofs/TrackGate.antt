@@ -8,6 +8,8 @@ use Rattle.channel.specs.declared.ChannelMode.{ChannelMode}
 use Rattle.channel.specs.declared.ChannelMode.the-variants.{InterruptOnTerminalCount, HardwareRetriggerableOneShot, RateGenerator, SquareWaveGenerator, SoftwareTriggeredStrobe, HardwareTriggeredStrobe}
 use Rattle.channel.specs.declared.ChannelState.{ChannelState}
 use Rattle.channel.specs.declared.ChannelState.the-variants.{WaitingForReload, WaitingForGate, DeferLoadCycle, WaitingForLoadCycle, WaitingForLoadTrigger, Counting}
+use Rattle.channel.specs.declared.ControlWord.{ControlWord}
+use Rattle.channel.specs.declared.Load.{Load}
 use Rattle.channel.specs.declared.LoadType.{LoadType}
 use Rattle.channel.specs.declared.LoadType.the-variants.{InitialLoad, SubsequentLoad}
 use Rattle.channel.specs.declared.PitType.{PitType}
@@ -17,6 +19,7 @@ use Rattle.channel.specs.Shared.{waitsForReload, changeChannelState, changeOutp
 use Rattle.channel.proofs.Modes.{every-mode}
 use Rattle.channel.proofs.Pick.{of-pick, pick-same}
 use Rattle.gate.specs.Gate as gate
+use Rattle.gate.proofs.Keeps.{gate-keeps}
 use Rattle.tick.specs.Due.{triggered}
 use Rattle.sheet.specs.Gate.{fallEffect, riseEffect}
 use Rattle.sheet.specs.Ticking.{held, valueAfter}
@@ -28,7 +31,7 @@ use Rattle.agreement.proofs.CountsDown.{countsDown}
 use Rattle.agreement.proofs.Gate.{loads-agree, raises-agree, level-kept}
 use Rattle.agreement.proofs.TrackSquare.{value-there}
 use Rattle.agreement.proofs.TrackTick.{load-come}
-use Rattle.agreement.proofs.Tracking.{Core, coreOf, lastOf, view, IsFixed, HoldsValue, Rules, Down, down, Rate, rate, Square, square, Paused, paused, Standing, AwaitsCount, AwaitsTrigger, WaitsIn, Loading, Counts, LostIn, PhaseAt, Holds, Tracks, not-yet, tracked}
+use Rattle.agreement.proofs.Tracking.{Core, coreOf, lastOf, view, IsFixed, HoldsValue, Halved, Rules, Down, down, Rate, rate, Square, square, Paused, paused, Standing, AwaitsCount, AwaitsTrigger, WaitsIn, Loading, Counts, LostIn, PhaseAt, Holds, Tracks, not-yet, tracked}
 
 -- a record with its gate at a level, in a state, with its output at a level
 abbrev gatedCore : Bool → ChannelState → Bool → Core → Core
@@ -151,6 +154,17 @@ gate-reloading : (c : Channel) (level : Bool) → gate.setGate c level .reloadin
 unfolding gate.setGate
 gate-reloading c level = simp (of-pick (λ (d : Channel). d .reloading), edge-reloading (c .pins .gate) level c, pick-same)
 
+edge-load : (was level : Bool) (c : Channel) → gate.edge was level c .load ≡ c .load
+unfolding changeChannelState changeOutputState
+edge-load false false c = refl
+edge-load false true c = simp (of-pick (λ (d : Channel). d .load), pick-same)
+edge-load true false c = simp (of-pick (λ (d : Channel). d .load), pick-same)
+edge-load true true c = refl
+
+gate-load : (c : Channel) (level : Bool) → gate.setGate c level .load ≡ c .load
+unfolding gate.setGate
+gate-load c level = simp (of-pick (λ (d : Channel). d .load), edge-load (c .pins .gate) level c, pick-same)
+
 raised : (b : Bool) (o : Fixed Bool) (level : Bool) → IsFixed o level → IsFixed (cond b (fixedAt true) o) (cond b true level)
 raised true o level is = refl
 raised false o level is = is
@@ -161,6 +175,15 @@ gateStep was level k late one = watching (fallen was level k (edge was level k))
 
 module _ (model : PitType) (one : Fixed Bool) (v : Fixed ℕ) (c : Channel) (rules : Rules model one (coreOf c))
     (value-is : HoldsValue v (c .control .«bcd_mode») (c .counter .«counting_element»)) where
+  half-gated : (level : Bool) → Halved (coreOf (gate.setGate c level))
+  half-gated level both zero waits =
+      let is =
+      rules .half (ap (λ (w : ControlWord). w .«rw_mode») (sym (gate-keeps c level .control-kept)) ∙ both)
+      (ap (λ (w : ControlWord). w .mode) (sym (gate-keeps c level .control-kept)) ∙ zero)
+      (ap (λ (l : Load). l .«load_state») (sym (gate-load c level)) ∙ waits) in
+      let core = level-core c level (ap waitsForReload (is .0)) in
+      (ap (λ (d : Core). d .state) core ∙ is .0, ap (λ (d : Core). d .pins .output) core ∙ is .1)
+
   -- the record with another level, state and output
   lands : (level : Bool) (s : ChannelState) (output : Bool) (q : Phase) (o : Fixed Bool) (late : Bool)
       → PhaseAt q late model (gatedCore level s output (coreOf c)) → IsFixed o output → coreOf (gate.setGate c level) ≡ gatedCore level s output (coreOf c)
@@ -169,7 +192,7 @@ module _ (model : PitType) (one : Fixed Bool) (v : Fixed ℕ) (c : Channel) (rul
       subst (Tracks model (watching (view (gatedCore level s output (coreOf c)) q o v) late one)) (sym is)
       (tracked q o v late one refl
       (record {
-        rules = record { masked = rules .masked; one-is = rules .one-is; rule-is = rules .rule-is; sixteen = rules .sixteen };
+        rules = record { masked = rules .masked; one-is = rules .one-is; rule-is = rules .rule-is; sixteen = rules .sixteen; half = subst Halved is (half-gated level) };
         phase-is = there;
         output-is = output-is;
         value-is = value-is;
@@ -197,7 +220,7 @@ module _ (model : PitType) (one : Fixed Bool) (v : Fixed ℕ) (c : Channel) (rul
           lands true (c .counter .«channel_state») (c .pins .output) p o false (there stops) output-is (level-core c true (ap waitsForReload waits))
       early p type waits there false stops =
           lands true (c .counter .«channel_state») (c .pins .output) lost o false
-          (rw type (waits, stops-raises (c .control .mode) stops))
+          (rw type (waits, stops))
           output-is
           (level-core c true (ap waitsForReload waits))
 
@@ -338,7 +361,7 @@ module _ (model : PitType) (one : Fixed Bool) (v : Fixed ℕ) (c : Channel) (rul
               subst (Tracks model (watching (standing (gated (view (coreOf c) loading o v) false loading fallenOutput) lost leftOpen leftOpen) late one)) (sym (acting acts))
               (tracked lost leftOpen leftOpen late one refl
               (record {
-                rules = record { masked = rules .masked; one-is = rules .one-is; rule-is = rules .rule-is; sixteen = rules .sixteen };
+                rules = record { masked = rules .masked; one-is = rules .one-is; rule-is = rules .rule-is; sixteen = rules .sixteen; half = subst Halved (acting acts) (half-gated false) };
                 phase-is = rw (h .complete, stops) (λ other. refl);
                 output-is = tt;
                 value-is = tt;
@@ -405,7 +428,7 @@ module _ (model : PitType) (one : Fixed Bool) (v : Fixed ℕ) (c : Channel) (rul
           → Tracks model (watching (gated (view (coreOf c) lost o v) false lost fallenOutput) late one) (coreOf (gate.setGate c false))
       lost-falls InitialLoad type h late m mode =
           subst (λ (b : Bool). Tracks model (watching (gated (view (coreOf c) lost o v) false lost (cond b (fixedAt true) o)) late one) (coreOf (gate.setGate c false)))
-          (sym (h .1))
+          (sym (stops-raises (c .control .mode) (h .1)))
           (lands false (c .counter .«channel_state») (c .pins .output) lost o late (rw type h) output-is (level-core c false (ap waitsForReload (h .0))))
       lost-falls SubsequentLoad type h late InterruptOnTerminalCount mode = quiet (ap gate.stopsOnFall mode) lost late (rw type h)
       lost-falls SubsequentLoad type h late HardwareRetriggerableOneShot mode = lost-acts type h late (λ z. false≢true (ap is-zero (sym mode ∙ z)))

@@ -1,6 +1,6 @@
 -- Ticks that neither load nor count, in step with the sheets' counter. Assumes nothing.
 use Prim.Native.Nat.{ℕ}
-use mathlib.Core.Bool.{Bool, true, false, false≢true, not, cond, _||_}
+use mathlib.Core.Bool.{Bool, true, false, true≢false, false≢true}
 use mathlib.Core.Path.{_≡_, refl, sym, ap, _∙_, subst}
 use Rattle.channel.specs.declared.Channel.{Channel}
 use Rattle.channel.specs.declared.ChannelMode.{ChannelMode}
@@ -11,7 +11,8 @@ use Rattle.channel.specs.declared.ReloadFlag.the-variants.{Normal, ReloadNextCy
 use Rattle.channel.specs.Modes.{modeNumber}
 use Rattle.channel.specs.Shared.{changeChannelState, changeOutputState}
 use Rattle.channel.proofs.Modes.{every-mode}
-use Rattle.tick.specs.declared.due.Kind.the-variants.{Idle, Deferred}
+use Rattle.tick.specs.declared.due.Kind.{Kind}
+use Rattle.tick.specs.declared.due.Kind.the-variants.{Idle, Deferred, Load, Reload, Count}
 use Rattle.tick.specs.Due.{triggered, runs, dueIn, due}
 use Rattle.tick.specs.Level.{restLevel}
 use Rattle.tick.specs.Tick.{agedBy, idle, deferred, tick}
@@ -60,16 +61,38 @@ ends-rest : (level : Bool) (m : ChannelMode) → countsDown m ≡ true → endsH
 ends-rest level =
     every-down (λ (m : ChannelMode). endsHigh m ≡ true → restLevel m level ≡ level) (λ h. refl) (λ h. refl) (λ h. absurd (false≢true h)) (λ h. absurd (false≢true h))
 
-rules-rest : (s : ChannelState) (model : PitType) (one : Fixed Bool) (c : Core) → Rules model one c → Rules model one (restedIn s c)
-rules-rest s model one c h = record { masked = h .masked; one-is = h .one-is; rule-is = h .rule-is; sixteen = h .sixteen }
+rules-rest : (s : ChannelState) (model : PitType) (one : Fixed Bool) (c : Core) → (c .state ≡ WaitingForReload → s ≡ WaitingForReload)
+    → Rules model one c → Rules model one (restedIn s c)
+rules-rest s model one c same h =
+    record {
+      masked = h .masked;
+      one-is = h .one-is;
+      rule-is = h .rule-is;
+      sixteen = h .sixteen;
+      half =
+          λ both zero waits.
+          let is = h .half both zero waits in
+          (same (is .0), ap (λ (m : ChannelMode). restLevel m (c .pins .output)) zero ∙ is .1);
+    }
+
+idle-not-deferred : Idle ≡ Deferred → ⊥
+idle-not-deferred is = true≢false (ap is-idle is)
+  where
+    is-idle : Kind → Bool
+    is-idle Idle = true
+    is-idle Deferred = false
+    is-idle Load = false
+    is-idle Reload = false
+    is-idle Count = false
 
 module _ (model : PitType) (o : Fixed Bool) (v : Fixed ℕ) (one : Fixed Bool) where
   -- a record in its own state, and what is said of it
-  holds-rest : (p : Phase) (late : Bool) (s : ChannelState) (c : Core) → Holds model p o v late one c → (q : Phase) (after : Bool)
+  holds-rest : (p : Phase) (late : Bool) (s : ChannelState) (c : Core) → (c .state ≡ WaitingForReload → s ≡ WaitingForReload)
+      → Holds model p o v late one c → (q : Phase) (after : Bool)
       → PhaseAt q after model (restedIn s c) → Holds model q (rested (modeNumber (c .control .mode)) o) v after one (restedIn s c)
-  holds-rest p late s c h q after there =
+  holds-rest p late s c same h q after there =
       record {
-        rules = rules-rest s model one c (h .rules);
+        rules = rules-rest s model one c same (h .rules);
         phase-is = there;
         output-is = rest-output (c .pins .output) o (h .output-is) (c .control .mode);
         value-is = h .value-is;
@@ -82,18 +105,21 @@ module _ (model : PitType) (o : Fixed Bool) (v : Fixed ℕ) (one : Fixed Bool) w
     rests still there =
         subst (Tracks model (watching (view (coreOf c) p (rested (modeNumber (c .control .mode)) o) v) false one))
         (sym (ap coreOf (tick-idle model c still) ∙ idle-core c))
-        (tracked p (rested (modeNumber (c .control .mode)) o) v false one refl (holds-rest p late (c .counter .«channel_state») (coreOf c) h p false there))
+        (tracked p (rested (modeNumber (c .control .mode)) o) v false one refl (holds-rest p late (c .counter .«channel_state») (coreOf c) (λ waits. waits) h p false there))
 
     tick-deferred : due c ≡ Deferred → tick model c ≡ deferred c
     unfolding tick
     tick-deferred put-off = rw put-off refl
+
+    not-deferred : due c ≡ Deferred → c .counter .«channel_state» ≡ WaitingForReload → WaitingForLoadCycle ≡ WaitingForReload
+    not-deferred is-due waits = absurd (idle-not-deferred (sym (reload-idle c waits) ∙ is-due))
 
     pub put-off : due c ≡ Deferred → PhaseAt loading false model (restedIn WaitingForLoadCycle (coreOf c))
         → Tracks model (watching (view (coreOf c) loading (rested (modeNumber (c .control .mode)) o) v) false one) (coreOf (tick model c))
     put-off is-due there =
         subst (Tracks model (watching (view (coreOf c) loading (rested (modeNumber (c .control .mode)) o) v) false one))
         (sym (ap coreOf (tick-deferred is-due) ∙ deferred-core c))
-        (tracked loading (rested (modeNumber (c .control .mode)) o) v false one refl (holds-rest p late WaitingForLoadCycle (coreOf c) h loading false there))
+        (tracked loading (rested (modeNumber (c .control .mode)) o) v false one refl (holds-rest p late WaitingForLoadCycle (coreOf c) (not-deferred is-due) h loading false there))
 
 -- the phases that rest
 pub count-rests : (c : Core) → AwaitsCount c → AwaitsCount (restedIn (c .state) c)

@@ -22,6 +22,7 @@ use Rattle.channel.proofs.Modes.{every-mode}
 use Rattle.tick.specs.declared.due.Kind.the-variants.{Load}
 use Rattle.tick.specs.Due.{triggered, runs, dueIn, due}
 use Rattle.tick.specs.Kept.{TickKeeps}
+use Rattle.tick.specs.Level.{restLevel}
 use Rattle.tick.specs.Tick.{tick}
 use Rattle.tick.proofs.Keeps as kept
 use Rattle.sheet.specs.Gate.{fallEffect}
@@ -31,7 +32,7 @@ use Rattle.agreement.specs.Gating.{goesOn}
 use Rattle.agreement.specs.Ticking.{sheetChip}
 use Rattle.agreement.specs.Watching.{Watch, unprogrammed, watching, watchTick}
 use Rattle.agreement.proofs.CountsDown.{countsDown, every-down}
-use Rattle.agreement.proofs.Idling.{state-stands}
+use Rattle.agreement.proofs.Idling.{state-stands, output-rests}
 use Rattle.agreement.proofs.SquarePlace.{halfTicks, Stands}
 use Rattle.agreement.proofs.TickWaits.{still-come}
 use Rattle.agreement.proofs.TrackDown.{loads-down, counts-down}
@@ -109,6 +110,12 @@ module _ (model : PitType) (c : Channel) (one : Fixed Bool) (rules : Rules model
         one-is = rw (keeps .reloading-kept) (rules .one-is);
         rule-is = rw (keeps .control-kept, keeps .reloading-kept) (rules .rule-is);
         sixteen = rw (keeps .load-type-kept, keeps .reload-kept) (rules .sixteen);
+        half =
+            rw (keeps .control-kept, keeps .load-state-kept)
+            (λ both zero waits.
+            let is = rules .half both zero waits in
+            (state-stands model c (reload-idle c (is .0)) 1 ∙ is .0,
+            output-rests model c (reload-idle c (is .0)) 0 ∙ ap (λ (m : ChannelMode). restLevel m (c .pins .output)) zero ∙ is .1));
       }
 
   view-then : (p : Phase) (o : Fixed Bool) (v : Fixed ℕ) → view (coreOf (tick model c)) p o v ≡ view (coreOf c) p o v

@@ -103,12 +103,18 @@ RuleIn SquareWaveGenerator r = r ≡ false
 RuleIn SoftwareTriggeredStrobe r = Unit
 RuleIn HardwareTriggeredStrobe r = Unit
 
+-- M0: between the two bytes of a count it stands still with its output low
+abbrev pub Halved : Core → Type 0
+Halved c = c .control .«rw_mode» ≡ LsbMsb → c .control .mode ≡ InterruptOnTerminalCount → c .load .«load_state» ≡ WaitingForMsb
+    → (c .state ≡ WaitingForReload) × (c .pins .output ≡ false)
+
 -- what no tick, write or gate changes, or only by a whole count
 pub record Rules (model : PitType) (one : Fixed Bool) (c : Core) : Type 0 where
   pub masked : c .control .mode ≡ SquareWaveGenerator → c .reloading .«load_mask» ≡ squareMask model
   pub one-is : IsFixed one (c .reloading .«reload_on_trigger»)
   pub rule-is : RuleIn (c .control .mode) (c .reloading .«reload_on_trigger»)
   pub sixteen : c .load .«load_type» ≡ SubsequentLoad → c .load .«reload_value» < 65536
+  pub half : Halved c
 
 -- a counter at tick j of n
 pub record Down (c : Core) (n j : ℕ) : Type 0 where
@@ -196,7 +202,7 @@ pub record Arrived (model : PitType) (c : Channel) (n j : ℕ) : Type 0 where
 
 -- whether a count has come
 abbrev pub LostIn : LoadType → Core → Type 0
-LostIn InitialLoad c = (c .state ≡ WaitingForReload) × (fallEffect (modeNumber (c .control .mode)) .raises ≡ false)
+LostIn InitialLoad c = (c .state ≡ WaitingForReload) × (fallEffect (modeNumber (c .control .mode)) .stops ≡ false)
 LostIn SubsequentLoad c = (c .control .mode ≡ InterruptOnTerminalCount → ⊥) → waitsForReload (c .state) ≡ false
 
 abbrev pub PhaseAt : Phase → Bool → PitType → Core → Type 0

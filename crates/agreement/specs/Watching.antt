@@ -113,7 +113,8 @@ staysHigh highByte mode = eqb mode 0
 staysHigh lowThenHigh mode = false
 
 abbrev pub outputKept : Counter → Counter → Counter
-outputKept k new = cond (staysHigh (k .access) (k .mode)) (standing new (new .phase) (lowered (k .output)) (new .value)) new
+outputKept k new =
+    standing new (new .phase) (cond (staysHigh (k .access) (k .mode)) (lowered (k .output)) (new .output)) (new .value)
 
 -- a byte written, the departures put in
 abbrev pub written : Chip → Bool → Fixed Bool → Counter → ℕ → Counter
