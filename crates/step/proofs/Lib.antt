@@ -16,4 +16,5 @@ pub mod Touched
 pub mod Kept
 pub mod Warp
 pub mod Numbers
+pub mod Accepted
 pub mod Listed
