@@ -8,6 +8,7 @@ pub mod Holds
 pub mod Passing
 pub mod After
 pub mod Turns
+pub mod Latched
 pub mod Reading
 pub mod ThreeCalls
 pub mod Promise

@@ -20,14 +20,6 @@ by-reply b o P refuses takes = go (step b o .reply) refl
     go (refused number) e = refuses number e
     go (accepted value) e = takes value e
 
-pub steps-accepted : (b : Board) (os : List Operation) → steps b os ≡ steps b (acceptedOf b os)
-steps-accepted b [] = refl
-steps-accepted b (o ∷ os) =
-    let after = acceptedOf (step b o .board) os in
-    by-reply b o (λ (reply : Reply Value). steps (step b o .board) os ≡ steps b (unlessRefused reply o after))
-    (λ number e. steps-accepted (step b o .board) os ∙ ap (λ (d : Board). steps d after) (refused-leaves b o number e .0))
-    (λ value e. steps-accepted (step b o .board) os)
-
 pub all-accepted : (b : Board) (os : List Operation) → AllAccepted b (acceptedOf b os)
 all-accepted b [] = tt
 all-accepted b (o ∷ os) =
@@ -35,6 +27,14 @@ all-accepted b (o ∷ os) =
     by-reply b o (λ (reply : Reply Value). AllAccepted b (unlessRefused reply o after))
     (λ number e. subst (λ (d : Board). AllAccepted d after) (refused-leaves b o number e .0) (all-accepted (step b o .board) os))
     (λ value e. ((value, e), all-accepted (step b o .board) os))
+
+pub steps-accepted : (b : Board) (os : List Operation) → steps b os ≡ steps b (acceptedOf b os)
+steps-accepted b [] = refl
+steps-accepted b (o ∷ os) =
+    let after = acceptedOf (step b o .board) os in
+    by-reply b o (λ (reply : Reply Value). steps (step b o .board) os ≡ steps b (unlessRefused reply o after))
+    (λ number e. steps-accepted (step b o .board) os ∙ ap (λ (d : Board). steps d after) (refused-leaves b o number e .0))
+    (λ value e. steps-accepted (step b o .board) os)
 
 -- none of them is left out
 pub own-accepted : (b : Board) (os : List Operation) → AllAccepted b os → acceptedOf b os ≡ os

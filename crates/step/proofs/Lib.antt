@@ -17,4 +17,3 @@ pub mod Kept
 pub mod Warp
 pub mod Numbers
 pub mod Accepted
-pub mod Listed
