@@ -13,5 +13,6 @@ pub mod Reading
 pub mod ThreeCalls
 pub mod Promise
 pub mod ByHand
+pub mod Witnesses
 pub mod Beginnings
 pub mod Apart

@@ -9,14 +9,13 @@ use borrow.Author.Tests.{eq-eqb, eqb-true, ltb-false}
 use Rattle.refusal.specs.Reply.{Reply, refused, accepted}
 use Rattle.refusal.proofs.Apart.{refused-not}
 use Rattle.channel.proofs.Pick.{pick-knowing}
-use Rattle.control.proofs.Named.{latch-byte}
 use Rattle.board.specs.declared.Board.{Board}
 use Rattle.board.specs.Board.{channelAt, withChannel}
 use Rattle.board.proofs.Channels.{put-found, not-above}
 use Rattle.step.specs.Step.{steps}
 use Rattle.reading.specs.Beginning.{mayBegin, Begins}
 use Rattle.reading.specs.Counts.{countsOn}
-use Rattle.reading.specs.Reading.{threeCalls, firstReply, secondReply, countsMade, Reading}
+use Rattle.reading.specs.Reading.{firstReply, secondReply, countsMade}
 use Rattle.reading.specs.Spelling.{remaining}
 use Rattle.reading.specs.Word.{readWord}
 use Rattle.reading.specs.ReadCount.{CountOutcome, countTaken, notRead, readCount}
@@ -121,16 +120,3 @@ pub reads-and-begins : ReadsAndBegins
 reads-and-begins b i bcd v begins =
     either-way (eqb (b .owed .0) 0) (λ none. read-begins b i bcd v begins (eqb-true _ _ none))
     (λ some. rw (owed-stays b i (begins .on-board) some) begins)
-
--- the shortest reading, on every channel that a reading may begin on, where no tick is owed
-pub shortest : (b : Board) (i : ℕ) (bcd : Bool) (v : ℕ) → b .owed .0 ≡ 0 → Begins b i bcd v → Reading b i bcd v (threeCalls i)
-shortest b i bcd v none begins =
-    record {
-      begins = begins;
-      before-may = tt;
-      no-loads = tt;
-      latches = latch-byte i (begins .on-board);
-      latch-accepted = latch-taken b none i (begins .on-board);
-      after-may = tt;
-      between-may = tt;
-    }
