@@ -24,18 +24,17 @@ use Rattle.reading.proofs.Spelling.{left-apart, spelled-once}
 use Rattle.reading.proofs.Stands.{Stands}
 use Rattle.reading.proofs.Latched.{spells}
 use Rattle.reading.proofs.Reading as steps-of
-use Rattle.reading.proofs.Reading.{holding}
 use Rattle.reading.proofs.ThreeCalls.{word-may, word-stands, latch-taken, three-calls, three-hold}
 use Rattle.reading.proofs.After.{begins-after}
 
 pub reads-the-count : ReadsTheCount
-reads-the-count b i bcd v calls reading = spells (holding reading)
+reads-the-count b i bcd v calls reading = spells (steps-of.holding reading)
 
 pub never-alike : NeverAlike
 never-alike bcd v b i calls reading c j others other few fewer differ first second =
     differ
     (left-apart bcd v (countsMade b i calls) (countsMade c j others) few fewer
-    (spelled-once _ _ (firstReply b i calls) (secondReply b i calls) (spells (holding reading)) (rw (first, second) (spells (holding other)))))
+    (spelled-once _ _ (firstReply b i calls) (secondReply b i calls) (spells (steps-of.holding reading)) (rw (first, second) (spells (steps-of.holding other)))))
 
 pub begins-again : BeginsAgain
 begins-again b i bcd v calls reading later = steps-of.begins-again reading later
