@@ -32,6 +32,7 @@ use Rattle.board.proofs.Channels.{put-found, not-above}
 use Rattle.owed.specs.BoardTick.{boardTick}
 use Rattle.step.specs.Operation.{LoadCycle, Reset, WorkOff}
 use Rattle.step.specs.Step.{step}
+use Rattle.step.specs.Accepted.{IsAccepted}
 use Rattle.step.specs.Owed.{madeBy}
 use Rattle.step.proofs.Three.{fresh-three, step-three}
 use Rattle.reading.specs.Beginning.{mayBegin, Begins}
@@ -91,13 +92,13 @@ reset-leaves : (b : Board) (value : Value) → reset b .reply ≡ accepted value
 unfolding reset
 reset-leaves b value took = ap (λ (o : Outcome). o .board) (none-owed b [] (accept done (restored b)) value took)
 
-pub reset-begins : (b : Board) (i : ℕ) → i < 3 → (value : Value) × (step b Reset .reply ≡ accepted value) → Begins (step b Reset .board) i false 0
+pub reset-begins : (b : Board) (i : ℕ) → i < 3 → IsAccepted b Reset → Begins (step b Reset .board) i false 0
 reset-begins b i on took =
     rw (reset-leaves b (took .0) (took .1)) (fresh-record (restored b) i (channelAt b i .pins .gate) on (restored-three b) (restored-at b i on))
 
 module _ (b : Board) (three : length (b .channels) ≡ 3) (i : ℕ) (on : i < 3) where
   pub mode-begins : (x : ℕ) (events : List ℕ) (place : ℕ) (word : ControlWord) → commandOf x ≡ SetMode i word → word .«rw_mode» ≡ LsbMsb
-      → (value : Value) × (step b (controlWrite x events place) .reply ≡ accepted value)
+      → IsAccepted b (controlWrite x events place)
       → Begins (step b (controlWrite x events place) .board) i (word .«bcd_mode») 0
   unfolding setMode
   mode-begins x events place word sets both took =

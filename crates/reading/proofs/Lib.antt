@@ -8,9 +8,11 @@ pub mod Holds
 pub mod Passing
 pub mod After
 pub mod Turns
+pub mod Latched
 pub mod Reading
 pub mod ThreeCalls
 pub mod Promise
 pub mod ByHand
+pub mod Witnesses
 pub mod Beginnings
 pub mod Apart

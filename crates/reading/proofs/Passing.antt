@@ -1,12 +1,13 @@
--- What may pass disturbs nothing that a read of channel i goes by, and makes on it, where no tick loads it, the counts that are said and no others. Assumes nothing.
+-- What may pass, and every refused call, disturbs nothing that a read of channel i goes by, and makes on it, where no tick loads it, the counts that are said and no
+-- others. Assumes nothing.
 use Prim.Native.Nat.{ℕ, _<_}
 use mathlib.Core.Bool.{Bool, true, false, cond}
 use mathlib.Core.List.{List, [], _∷_}
-use mathlib.Core.Path.{_≡_, refl, sym, subst}
+use mathlib.Core.Path.{_≡_, refl, sym, ap, subst}
 use lib.Dec.{ltb, eqb}
 use lib.ListN.{length}
 use borrow.Author.Tests.{eqb-true, eqb-false}
-use Rattle.refusal.specs.Reply.{accepted}
+use Rattle.refusal.specs.Reply.{Reply, refused, accepted}
 use Rattle.numbers.specs.Times.{times}
 use Rattle.channel.specs.declared.Channel.{Channel}
 use Rattle.channel.proofs.Keeps.{kept-dirty}
@@ -31,14 +32,17 @@ use Rattle.ports.specs.Writes.{writeTo, writePort}
 use Rattle.owed.specs.BoardTick.{boardTick}
 use Rattle.step.specs.Operation.{Operation, WritePort, ReadPort, SetChannelGate, Counts, LoadCycle, CatchUp, Run, Reset, GetOutputState, GetChannelCount, DoesChannelRetrigger, IsDirty, GetTimerAccum, WorkOff}
 use Rattle.step.specs.Step.{step, steps}
-use Rattle.step.specs.Accepted.{AllAccepted}
+use Rattle.step.specs.Accepted.{IsAccepted, unlessRefused, acceptedOf}
+use Rattle.step.specs.Time.{ifAccepted}
 use Rattle.step.specs.Touched.{Touches}
 use Rattle.refusal.proofs.Apart.{refused-not}
 use Rattle.step.proofs.Owing.{by-owed}
+use Rattle.step.proofs.Leaves.{refused-leaves}
+use Rattle.step.proofs.Accepted.{by-reply}
 use Rattle.step.proofs.Three.{step-three}
 use Rattle.step.proofs.Touched.{write-stays, untouched-stays}
 use Rattle.reading.specs.Passing.{MayWrite, MayPass, AllMayPass, Unloaded, NoLoad, NoLoads}
-use Rattle.reading.specs.Counts.{takenIn, countsIn, countsOn}
+use Rattle.reading.specs.Counts.{takenIn, countsBy, countsIn, countsOn}
 use Rattle.reading.proofs.Counted.{Counted, counted-none, counted-kept, counted-then, counted-counts}
 use Rattle.reading.proofs.Ticked.{ticks-counted}
 use Rattle.reading.proofs.Worked.{ticks-made}
@@ -129,8 +133,7 @@ module _ (b : Board) (three : length (b .channels) ≡ 3) (i : ℕ) (on : i < 3)
   work-passes made outcome is =
       subst (λ (d : Board). Counted (Unloaded i b made) (takenIn i b made) (channelAt b i) (channelAt d i)) (sym is) (ticks-counted b i on made)
 
-  pub passes : (o : Operation) → MayPass i o → (value : Value) × (step b o .reply ≡ accepted value)
-      → Counted (NoLoad i b o) (countsIn i b o) (channelAt b i) (channelAt (step b o .board) i)
+  passes : (o : Operation) → MayPass i o → IsAccepted b o → Counted (NoLoad i b o) (countsBy i b o) (channelAt b i) (channelAt (step b o .board) i)
   unfolding writePort
   passes (WritePort port byte events place) may took = write-passes (portOf port) byte events place may
   passes (ReadPort port) may took = leaves (ReadPort port) may
@@ -147,9 +150,31 @@ module _ (b : Board) (three : length (b .channels) ≡ 3) (i : ℕ) (on : i < 3)
   passes GetTimerAccum may took = leaves GetTimerAccum (λ none. none)
   passes (WorkOff stated events place) may took = work-passes _ (step b (WorkOff stated events place)) (ticks-made b stated events place)
 
-pub all-pass : (b : Board) → length (b .channels) ≡ 3 → (i : ℕ) → i < 3 → (os : List Operation) → AllMayPass i os → AllAccepted b os
+  abbrev Passed : Operation → Type 0
+  Passed o = Counted (NoLoad i b o) (countsIn i b o) (channelAt b i) (channelAt (step b o .board) i)
+
+  -- a refused call leaves the channel, and makes no count
+  refused-passes : (o : Operation) (number : ℕ) → step b o .reply ≡ refused number → Passed o
+  refused-passes o number e =
+      let none : countsIn i b o ≡ 0 = ap (λ (reply : Reply Value). ifAccepted reply (countsBy i b o)) e in
+      rw (none, refused-leaves b o number e .0) (counted-none (channelAt b i))
+
+  accepted-passes : (o : Operation) → MayPass i o → IsAccepted b o → Passed o
+  accepted-passes o may took =
+      let all : countsIn i b o ≡ countsBy i b o = ap (λ (reply : Reply Value). ifAccepted reply (countsBy i b o)) (took .1) in
+      rw all (passes o may took)
+
+  -- the first call of a list, of which the accepted ones may pass, and what is left of the list
+  first-passes : (o : Operation) (os : List Operation) → AllMayPass i (acceptedOf b (o ∷ os)) → Passed o × AllMayPass i (acceptedOf (step b o .board) os)
+  first-passes o os =
+      let later = acceptedOf (step b o .board) os in
+      by-reply b o (λ (reply : Reply Value). AllMayPass i (unlessRefused reply o later) → Passed o × AllMayPass i later)
+      (λ number e may. (refused-passes o number e, may))
+      (λ value e may. (accepted-passes o (may .0) (value, e), may .1))
+
+pub all-pass : (b : Board) → length (b .channels) ≡ 3 → (i : ℕ) → i < 3 → (os : List Operation) → AllMayPass i (acceptedOf b os)
     → Counted (NoLoads i b os) (countsOn i b os) (channelAt b i) (channelAt (steps b os) i)
-all-pass b three i on [] may took = counted-none (channelAt b i)
-all-pass b three i on (o ∷ os) may took =
-    counted-then (countsIn i b o) (countsOn i (step b o .board) os) (passes b three i on o (may .0) (took .0))
-    (all-pass (step b o .board) (step-three b three o) i on os (may .1) (took .1))
+all-pass b three i on [] may = counted-none (channelAt b i)
+all-pass b three i on (o ∷ os) may =
+    let first = first-passes b three i on o os may in
+    counted-then (countsIn i b o) (countsOn i (step b o .board) os) (first .0) (all-pass (step b o .board) (step-three b three o) i on os (first .1))

@@ -22,13 +22,16 @@ use Rattle.refusal.specs.Reply.{accepted}
 use Rattle.ports.specs.Port.{portOf}
 use Rattle.ports.specs.Settle.{settle}
 use Rattle.ports.specs.Writes.{controlRegisterWrite, writePort}
-use Rattle.step.specs.Step.{step, steps}
-use Rattle.reading.specs.Reading.{readOf, latchOf, threeCalls}
+use Rattle.step.specs.Step.{step}
+use Rattle.step.specs.Accepted.{IsAccepted}
+use Rattle.step.proofs.Three.{step-three}
+use Rattle.reading.specs.Reading.{readOf, latch, threeCalls, latched, atEnd}
 use Rattle.reading.specs.Word.{readWord}
 use Rattle.reading.specs.Beginning.{mayBegin}
 use Rattle.reading.proofs.Holds.{Holds, latch-holds, first-byte, first-holds, second-byte, second-may}
 use Rattle.reading.proofs.Stands.{Stands, latch-stands, read-stands}
 use Rattle.reading.proofs.Turns.{read-turn}
+use Rattle.reading.proofs.Latched.{Latched}
 
 module _ (c : Channel) (may : mayBegin c ≡ true) where
   held : Holds (c .counter .«counting_element») NoRead (latchCount c)
@@ -49,36 +52,49 @@ unfolding readWord
 word-stands c s = read-stands (readByte (latchCount c) .channel) (read-stands (latchCount c) (latch-stands s))
 
 -- a latch of the channel's own, as the board's call
-abbrev latched : Board → ℕ → Outcome
-latched b n = record { reply = accepted (newPlace 0); board = withChannel b n (latchCount (channelAt b n)); events = [] }
+abbrev latchedOn : Board → ℕ → Outcome
+latchedOn b n = record { reply = accepted (newPlace 0); board = withChannel b n (latchCount (channelAt b n)); events = [] }
 
-latch-settled : (b : Board) (n : ℕ) → settle b n (latchCount (channelAt b n)) [] 0 ≡ latched b n
+latch-settled : (b : Board) (n : ℕ) → settle b n (latchCount (channelAt b n)) [] 0 ≡ latchedOn b n
 unfolding settle placeEvent latchCount
 latch-settled b n = simp (standing-level n (channelAt b n .pins .output))
 
 module _ (b : Board) (none : b .owed .0 ≡ 0) (n : ℕ) (on : n < 3) where
-  latch-outcome : step b (latchOf n) ≡ latched b n
+  latch-outcome : step b (latch (threeCalls n)) ≡ latchedOn b n
   unfolding writePort portOf
   latch-outcome =
       simp none (ap (λ (command : Command). controlRegisterWrite b command [] 0) (latch-byte n on) ∙ latch-settled b n)
 
-  pub latch-taken : step b (latchOf n) .reply ≡ accepted (newPlace 0)
-  latch-taken = ap (λ (o : Outcome). o .reply) latch-outcome
+  pub latch-taken : IsAccepted b (latch (threeCalls n))
+  latch-taken = (newPlace 0, ap (λ (o : Outcome). o .reply) latch-outcome)
 
-  latch-put : step b (latchOf n) .board ≡ withChannel b n (latchCount (channelAt b n))
+  latch-put : latched b n (threeCalls n) ≡ withChannel b n (latchCount (channelAt b n))
   latch-put = ap (λ (o : Outcome). o .board) latch-outcome
 
-module _ (b : Board) (three : length (b .channels) ≡ 3) (n : ℕ) (on : n < 3) where
-  -- a read of a board that has just been given a record
-  read-put : (c : Channel) → step (withChannel b n c) (readOf n) .board ≡ withChannel b n (readByte c .channel)
-  read-put c =
-      ap (λ (o : Outcome). o .board) (read-turn (withChannel b n c) n on)
-      ∙ ap (λ (d : Channel). withChannel (withChannel b n c) n (readByte d .channel)) (put-found b three n on c)
-      ∙ put-again b n c (readByte c .channel)
+  module _ (three : length (b .channels) ≡ 3) where
+    -- a read of a board that has just been given a record
+    read-put : (c : Channel) → step (withChannel b n c) (readOf n) .board ≡ withChannel b n (readByte c .channel)
+    read-put c =
+        ap (λ (o : Outcome). o .board) (read-turn (withChannel b n c) n on)
+        ∙ ap (λ (d : Channel). withChannel (withChannel b n c) n (readByte d .channel)) (put-found b three n on c)
+        ∙ put-again b n c (readByte c .channel)
 
-  pub three-calls : b .owed .0 ≡ 0 → steps b (threeCalls n) ≡ withChannel b n (readWord (channelAt b n) .channel)
-  unfolding readWord
-  three-calls none =
-      ap (λ (d : Board). step (step d (readOf n) .board) (readOf n) .board) (latch-put b none n on)
-      ∙ ap (λ (d : Board). step d (readOf n) .board) (read-put (latchCount (channelAt b n)))
-      ∙ read-put (readByte (latchCount (channelAt b n)) .channel)
+    pub three-calls : atEnd b n (threeCalls n) ≡ withChannel b n (readWord (channelAt b n) .channel)
+    unfolding readWord
+    three-calls =
+        ap (λ (d : Board). step (step d (readOf n) .board) (readOf n) .board) latch-put
+        ∙ ap (λ (d : Board). step d (readOf n) .board) (read-put (latchCount (channelAt b n)))
+        ∙ read-put (readByte (latchCount (channelAt b n)) .channel)
+
+    -- the word that the latch holds is the counting element, whatever its digits
+    pub three-hold : mayBegin (channelAt b n) ≡ true → Latched b n (threeCalls n) (channelAt b n .counter .«counting_element»)
+    three-hold may =
+        let record-now : channelAt (latched b n (threeCalls n)) n ≡ latchCount (channelAt b n) =
+        ap (λ (d : Board). channelAt d n) latch-put ∙ put-found b three n on (latchCount (channelAt b n)) in
+        record {
+          on-board = on;
+          three-channels = step-three b three (latch (threeCalls n));
+          holds = rw record-now (latch-holds (channelAt b n) may);
+          after-may = tt;
+          between-may = tt;
+        }

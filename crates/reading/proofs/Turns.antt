@@ -20,6 +20,7 @@ use Rattle.ports.proofs.Settling.{settle-taken}
 use Rattle.ports.specs.Reads.{dataRead, readFrom, readPort}
 use Rattle.ports.specs.Writes.{controlRegisterWrite, writePort}
 use Rattle.step.specs.Step.{step}
+use Rattle.step.specs.Accepted.{IsAccepted}
 use Rattle.step.proofs.Owing.{by-owed}
 use Rattle.reading.specs.Reading.{readOf, controlWrite}
 
@@ -52,7 +53,7 @@ module _ (b : Board) (three : length (b .channels) ≡ 3) (i : ℕ) (on : i < 3)
   -- a control byte that is a command, where that command leaves a record
   pub command-turn : (x : ℕ) (events : List ℕ) (place : ℕ) (command : Command) (c : Channel) → commandOf x ≡ command
       → controlRegisterWrite b command events place ≡ settle b i c events place
-      → (value : Value) × (step b (controlWrite x events place) .reply ≡ accepted value)
+      → IsAccepted b (controlWrite x events place)
       → channelAt (step b (controlWrite x events place) .board) i ≡ c
   unfolding writePort portOf
   command-turn x events place command c is leaves took =

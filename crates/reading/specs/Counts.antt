@@ -10,6 +10,7 @@ use Rattle.board.specs.Board.{channelAt}
 use Rattle.owed.specs.BoardTick.{boardTick}
 use Rattle.step.specs.Operation.{Operation, WritePort, ReadPort, SetChannelGate, Counts, LoadCycle, CatchUp, Run, Reset, GetOutputState, GetChannelCount, DoesChannelRetrigger, IsDirty, GetTimerAccum, WorkOff, kindOf}
 use Rattle.step.specs.Step.{step}
+use Rattle.step.specs.Time.{ifAccepted}
 use Rattle.step.specs.Owed.{madeBy}
 
 -- the counts that the next ticks of the board, so many, take from channel i
@@ -17,7 +18,7 @@ abbrev pub takenIn : ℕ → Board → ℕ → ℕ
 takenIn i b zero = 0
 takenIn i b (suc k) = takenIn i b k + taken (channelAt (times k boardTick b) i)
 
--- the counts that an operation makes by hand on channel i
+-- the counts that an accepted operation makes by hand on channel i
 abbrev pub handIn : ℕ → Operation → ℕ
 handIn i (WritePort port byte events place) = 0
 handIn i (ReadPort port) = 0
@@ -38,9 +39,13 @@ handIn i (WorkOff stated events place) = 0
 abbrev pub ticksMade : Board → Operation → ℕ
 ticksMade b o = cond (kindOf o .works) (madeBy (step b o .reply)) 0
 
--- the counts that an operation makes on channel i: by its ticks, or by hand
+-- the counts that an accepted operation makes on channel i: by its ticks, or by hand
+abbrev pub countsBy : ℕ → Board → Operation → ℕ
+countsBy i b o = cond (kindOf o .works) (takenIn i b (ticksMade b o)) (handIn i o)
+
+-- .. and a refused one makes none
 abbrev pub countsIn : ℕ → Board → Operation → ℕ
-countsIn i b o = cond (kindOf o .works) (takenIn i b (ticksMade b o)) (handIn i o)
+countsIn i b o = ifAccepted (step b o .reply) (countsBy i b o)
 
 -- the sum over a list, from a board on
 abbrev pub countsOn : ℕ → Board → List Operation → ℕ

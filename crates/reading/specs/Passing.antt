@@ -24,7 +24,7 @@ MayWrite i (port.Data n) byte = Unit
 MayWrite i port.Command byte = CommandTouches (commandOf byte) i → ⊥
 MayWrite i port.Unknown byte = Unit
 
--- what may be done on the board while channel i is being read
+-- what an accepted call may do on the board while channel i is being read; of a refused one nothing is asked (`Reading`)
 abbrev pub MayPass : ℕ → Operation → Type 0
 MayPass i (WritePort port byte events place) = MayWrite i (portOf port) byte
 MayPass i (ReadPort port) = ReadTouches (portOf port) i → ⊥
@@ -49,7 +49,7 @@ AllMayPass i (o ∷ os) = MayPass i o × AllMayPass i os
 abbrev pub Unloaded : ℕ → Board → ℕ → Type 0
 Unloaded i b ticks = (k : ℕ) → k < ticks → loads (b .model) (channelAt (times k boardTick b) i) ≡ false
 
--- .. none that an operation makes. (A load cycle made by hand may not pass at all.)
+-- .. none that an operation makes. (A refused one makes none, and a load cycle made by hand may not pass at all.)
 abbrev pub NoLoad : ℕ → Board → Operation → Type 0
 NoLoad i b o = Unloaded i b (ticksMade b o)
 

@@ -16,4 +16,4 @@ pub mod Touched
 pub mod Kept
 pub mod Warp
 pub mod Numbers
-pub mod Listed
+pub mod Accepted

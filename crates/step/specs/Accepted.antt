@@ -1,12 +1,26 @@
--- Operations that are all accepted, each when its turn comes: demand 3's "all in accepted calls".
+-- Demand 3's "all in accepted calls": a call that is accepted when its turn comes, and which calls of a list are.
 use mathlib.Core.List.{List, [], _∷_}
 use mathlib.Core.Path.{_≡_}
-use Rattle.refusal.specs.Reply.{accepted}
+use Rattle.refusal.specs.Reply.{Reply, refused, accepted}
 use Rattle.board.specs.declared.Board.{Board}
 use Rattle.board.specs.Outcome.{Value}
 use Rattle.step.specs.Operation.{Operation}
 use Rattle.step.specs.Step.{step}
 
+abbrev pub IsAccepted : Board → Operation → Type 0
+IsAccepted b o = (value : Value) × (step b o .reply ≡ accepted value)
+
+-- every call of a list is
 abbrev pub AllAccepted : Board → List Operation → Type 0
 AllAccepted b [] = Unit
-AllAccepted b (o ∷ os) = ((value : Value) × (step b o .reply ≡ accepted value)) × AllAccepted (step b o .board) os
+AllAccepted b (o ∷ os) = IsAccepted b o × AllAccepted (step b o .board) os
+
+-- a call before others, where its reply is no refusal
+abbrev pub unlessRefused : Reply Value → Operation → List Operation → List Operation
+unlessRefused (refused number) o os = os
+unlessRefused (accepted value) o os = o ∷ os
+
+-- the accepted calls of a list, each judged when its turn comes
+abbrev pub acceptedOf : Board → List Operation → List Operation
+acceptedOf b [] = []
+acceptedOf b (o ∷ os) = unlessRefused (step b o .reply) o (acceptedOf (step b o .board) os)
