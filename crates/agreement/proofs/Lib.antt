@@ -42,3 +42,4 @@ pub mod TrackSquare
 pub mod TrackRest
 pub mod TrackTick
 pub mod TrackGate
+pub mod TrackWrite

@@ -41,7 +41,7 @@ second-load c both waits high defer =
     simp (both, waits)
     (reload-is-register (putRegister c (c .load .«count_register» % 256 + high * 256) WaitingForLsb) defer)
 
-stops-agree : (m : ChannelMode) → stopsOnLowByte m ≡ firstByteStops (modeNumber m)
+pub stops-agree : (m : ChannelMode) → stopsOnLowByte m ≡ firstByteStops (modeNumber m)
 stops-agree = every-mode (λ (m : ChannelMode). stopsOnLowByte m ≡ firstByteStops (modeNumber m)) refl refl refl refl refl refl
 
 module _ (c : Channel) (both : c .control .«rw_mode» ≡ LsbMsb) (begins : c .load .«load_state» ≡ WaitingForLsb) where

@@ -129,7 +129,7 @@ underway-not WaitingForLoadCycle goes = refl
 underway-not WaitingForLoadTrigger goes = refl
 underway-not (Counting f) goes = refl
 
-standing-not : (model : PitType) (c : Core) (n j : ℕ) → Standing model c n j → waitsForReload (c .state) ≡ false
+pub standing-not : (model : PitType) (c : Core) (n j : ℕ) → Standing model c n j → waitsForReload (c .state) ≡ false
 standing-not model c n j (down d) = goes-not (c .state) (d .goes)
 standing-not model c n j (rate r) = ap waitsForReload (r .counts)
 standing-not model c n j (square s) = ap waitsForReload (s .counts)
