@@ -43,3 +43,4 @@ pub mod TrackRest
 pub mod TrackTick
 pub mod TrackGate
 pub mod TrackWrite
+pub mod TrackBytes

@@ -39,7 +39,7 @@ use Rattle.agreement.proofs.TrackGate.{standing-not}
 use Rattle.agreement.proofs.Tracking.{Core, coreOf, lastOf, view, IsFixed, HoldsValue, Halved, RuleIn, Rules, Down, down, Rate, rate, Square, square, Paused, paused, Standing, AwaitsCount, AwaitsTrigger, LoadDue, WaitsIn, Loading, Counts, LostIn, PhaseAt, Holds, Tracks, not-yet, tracked}
 
 -- a record with a whole count w written to it, in a state
-abbrev done : ℕ → LoadState → ChannelState → Core → Core
+abbrev pub done : ℕ → LoadState → ChannelState → Core → Core
 done w s state c =
     record {
       control = c .control;
@@ -58,7 +58,7 @@ done w s state c =
     }
 
 -- the state that it enters
-abbrev entered : LoadType → Bool → Core → ChannelState
+abbrev pub entered : LoadType → Bool → Core → ChannelState
 entered InitialLoad defer c = firstState (c .reloading .«reload_on_trigger») defer
 entered SubsequentLoad defer c = cond (loadsAgain (c .control .mode)) (waitingState defer) (c .state)
 
@@ -74,7 +74,7 @@ module _ (c : Channel) (w : ℕ) (s : LoadState) (defer : Bool) where
   unfolding finalizeLoad completeLoad putRegister changeChannelState
   first-core type = simp type
 
-  done-core : (t : LoadType) → c .load .«load_type» ≡ t → coreOf (finalizeLoad (putRegister c w s) defer) ≡ done w s (entered t defer (coreOf c)) (coreOf c)
+  pub done-core : (t : LoadType) → c .load .«load_type» ≡ t → coreOf (finalizeLoad (putRegister c w s) defer) ≡ done w s (entered t defer (coreOf c)) (coreOf c)
   done-core InitialLoad type = first-core type
   done-core SubsequentLoad type = later-core type (loadsAgain (c .control .mode)) refl
 
@@ -124,7 +124,7 @@ first-come true defer = refl
 first-come false true = refl
 first-come false false = refl
 
-is-lowered : (o : Fixed Bool) (level : Bool) → IsFixed o level → IsFixed (lowered o) level
+pub is-lowered : (o : Fixed Bool) (level : Bool) → IsFixed o level → IsFixed (lowered o) level
 is-lowered leftOpen level is = tt
 is-lowered (fixedAt true) level is = tt
 is-lowered (fixedAt false) level is = is
@@ -422,7 +422,7 @@ module _ (model : PitType) (one : Fixed Bool) (v : Fixed ℕ) (late : Bool) (c :
   three-mode mode lost h = lost-there 3 SquareWaveGenerator mode refl refl (lost-undisturbed chip x) (c .load .«load_type») refl h
 
   -- every mode
-  writes-in : (M : ChannelMode) → c .control .mode ≡ M → (p : Phase) → PhaseAt p late model c → Entered (modeNumber M) p
+  pub writes-in : (M : ChannelMode) → c .control .mode ≡ M → (p : Phase) → PhaseAt p late model c → Entered (modeNumber M) p
   writes-in InterruptOnTerminalCount mode p h = zero-mode (c .load .«load_type») refl mode p
   writes-in HardwareRetriggerableOneShot mode p h = one-mode mode p h
   writes-in RateGenerator mode p h = two-mode mode p h
@@ -431,7 +431,7 @@ module _ (model : PitType) (one : Fixed Bool) (v : Fixed ℕ) (late : Bool) (c :
   writes-in HardwareTriggeredStrobe mode p h = five-mode mode p h
 
 -- the first byte of two
-abbrev begunCore : ℕ → Bool → Core → Core
+abbrev pub begunCore : ℕ → Bool → Core → Core
 begunCore byte stops c =
     record {
       control = c .control;
@@ -449,7 +449,7 @@ begunCore byte stops c =
       pins = record { gate = c .pins .gate; output = cond stops false (c .pins .output) };
     }
 
-begun-core : (c : Channel) (byte : ℕ) (defer stops : Bool) → c .control .«rw_mode» ≡ LsbMsb → c .load .«load_state» ≡ WaitingForLsb
+pub begun-core : (c : Channel) (byte : ℕ) (defer stops : Bool) → c .control .«rw_mode» ≡ LsbMsb → c .load .«load_state» ≡ WaitingForLsb
     → stopsOnLowByte (c .control .mode) ≡ stops → coreOf (writeByte c byte defer) ≡ begunCore byte stops (coreOf c)
 unfolding writeByte putRegister changeChannelState changeOutputState
 begun-core c byte defer true both waits stops = simp (both, waits, stops)
@@ -518,7 +518,7 @@ module _ (model : PitType) (c : Core) (byte : ℕ) where
     abbrev begunOutput : Bool → Fixed Bool
     begunOutput stops = cond stops (outputOnFirst (sheetChip model) o) o
 
-    begins : (stops : Bool) → stopsOnLowByte (c .control .mode) ≡ stops
+    pub begins : (stops : Bool) → stopsOnLowByte (c .control .mode) ≡ stops
         → Tracks model (watching (view (begunCore byte stops c) (cond stops awaitsCount p) (begunOutput stops) v) late one) (begunCore byte stops c)
     begins true stops =
         let zero : c .control .mode ≡ InterruptOnTerminalCount = only-zero (c .control .mode) stops in
