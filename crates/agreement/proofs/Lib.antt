@@ -44,3 +44,4 @@ pub mod TrackTick
 pub mod TrackGate
 pub mod TrackWrite
 pub mod TrackBytes
+pub mod TrackOthers

@@ -71,7 +71,7 @@ high-not is = true≢false (ap one-byte is)
     one-byte Msb = true
     one-byte LsbMsb = false
 
-low-first : WaitingForLsb ≡ WaitingForMsb → ⊥
+pub low-first : WaitingForLsb ≡ WaitingForMsb → ⊥
 low-first is = true≢false (ap waits-low is)
   where
     waits-low : LoadState → Bool

@@ -135,7 +135,7 @@ standing-not model c n j (rate r) = ap waitsForReload (r .counts)
 standing-not model c n j (square s) = ap waitsForReload (s .counts)
 standing-not model c n j (paused p) = underway-not (c .state) (p .holds)
 
-waiting-not : (late : Bool) (s : ChannelState) (m : ChannelMode) → WaitsIn late s m → waitsForReload s ≡ false
+pub waiting-not : (late : Bool) (s : ChannelState) (m : ChannelMode) → WaitsIn late s m → waitsForReload s ≡ false
 waiting-not true s m waits = ap waitsForReload waits
 waiting-not false s m waits = load-come s m waits
 
