@@ -26,12 +26,12 @@ use Rattle.sheet.specs.Ticking.{held, valueAfter}
 use Rattle.sheet.specs.Counter.{Fixed, leftOpen, fixedAt, Phase, awaitsCount, awaitsTrigger, loading, counting, lost, Counter, standing, onTrigger, gated, edge}
 use Rattle.agreement.specs.Gating.{underway, goesOn}
 use Rattle.agreement.specs.Ticking.{sheetChip}
-use Rattle.agreement.specs.Watching.{Watch, unprogrammed, watching, losesLoad, fallen, lateAfter, watchGate}
+use Rattle.agreement.specs.Watching.{Watch, unprogrammed, watching, losesLoad, fallen, lateAfter, watchGate, IsFixed, HoldsValue}
 use Rattle.agreement.proofs.CountsDown.{countsDown}
 use Rattle.agreement.proofs.Gate.{loads-agree, raises-agree, level-kept}
 use Rattle.agreement.proofs.TrackSquare.{value-there}
 use Rattle.agreement.proofs.TrackTick.{load-come}
-use Rattle.agreement.proofs.Tracking.{Core, coreOf, lastOf, view, IsFixed, HoldsValue, Halved, Rules, Down, down, Rate, rate, Square, square, Paused, paused, Standing, AwaitsCount, AwaitsTrigger, WaitsIn, Loading, Counts, LostIn, PhaseAt, Holds, Tracks, not-yet, tracked}
+use Rattle.agreement.proofs.Tracking.{Core, coreOf, lastOf, view, Halved, Rules, Down, down, Rate, rate, Square, square, Paused, paused, Standing, AwaitsCount, AwaitsTrigger, WaitsIn, Loading, Counts, LostIn, PhaseAt, Holds, Tracks, not-yet, tracked}
 
 -- a record with its gate at a level, in a state, with its output at a level
 abbrev gatedCore : Bool → ChannelState → Bool → Core → Core

@@ -29,12 +29,12 @@ use Rattle.sheet.specs.Gate.{fallEffect}
 use Rattle.sheet.specs.Output.{outputAfterModeSet}
 use Rattle.sheet.specs.Counter.{Fixed, leftOpen, fixedAt, Phase, awaitsCount, awaitsTrigger, loading, counting, lost, Counter, programmed}
 use Rattle.agreement.specs.Words.{sheetAccess}
-use Rattle.agreement.specs.Watching.{Watch, unprogrammed, watching, oneNow, gateOf, watchProgram, watchReset, strayed, watchHand}
+use Rattle.agreement.specs.Watching.{Watch, unprogrammed, watching, oneNow, gateOf, watchProgram, watchReset, strayed, watchHand, IsFixed}
 use Rattle.agreement.proofs.HeldCounts.{counts-reloading, counts-load, counts-pins, counts-state}
 use Rattle.agreement.proofs.Output.{output-agrees}
 use Rattle.agreement.proofs.TrackBytes.{low-first}
 use Rattle.agreement.proofs.TrackGate.{standing-not, waiting-not}
-use Rattle.agreement.proofs.Tracking.{Core, coreOf, firstOf, view, IsFixed, RuleIn, Rules, LostIn, PhaseAt, Holds, Tracks, not-yet, tracked}
+use Rattle.agreement.proofs.Tracking.{Core, coreOf, firstOf, view, RuleIn, Rules, LostIn, PhaseAt, Holds, Tracks, not-yet, tracked}
 
 -- the mode set
 no-first : (a : RwMode) (register : ℕ) → firstOf a WaitingForLsb register ≡ leftOpen

@@ -20,12 +20,12 @@ use Rattle.sheet.specs.Gate.{fallEffect}
 use Rattle.sheet.specs.Counter.{Fixed, leftOpen, fixedAt, Phase, awaitsCount, awaitsTrigger, loading, counting, lost, rested}
 use Rattle.sheet.specs.Ticking.{highFrom}
 use Rattle.agreement.specs.Gating.{underway, goesOn}
-use Rattle.agreement.specs.Watching.{watching}
+use Rattle.agreement.specs.Watching.{watching, IsFixed}
 use Rattle.agreement.proofs.CountsDown.{countsDown, every-down}
 use Rattle.agreement.proofs.GateStops.{idle-in}
 use Rattle.agreement.proofs.HighAtZero.{endsHigh}
 use Rattle.agreement.proofs.Idling.{tick-idle}
-use Rattle.agreement.proofs.Tracking.{Core, coreOf, view, IsFixed, Rules, Down, down, Rate, rate, Square, square, Paused, paused, Standing, AwaitsCount, AwaitsTrigger, Loading, Counts, PhaseAt, Holds, Tracks, tracked}
+use Rattle.agreement.proofs.Tracking.{Core, coreOf, view, Rules, Down, down, Rate, rate, Square, square, Paused, paused, Standing, AwaitsCount, AwaitsTrigger, Loading, Counts, PhaseAt, Holds, Tracks, tracked}
 use Rattle.agreement.proofs.Waiting.{reload-idle}
 
 -- the record after such a tick, in a state

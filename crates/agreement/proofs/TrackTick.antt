@@ -30,7 +30,7 @@ use Rattle.sheet.specs.Ticking.{held, highTicks, valueAfter, outputAfter, small
 use Rattle.sheet.specs.Counter.{Fixed, leftOpen, fixedAt, Phase, awaitsCount, awaitsTrigger, loading, counting, lost, Counter, standing, numberWritten, numberOf, legal, toLoad, at, nowhere, loadHalf, load, beginsLow, reloads, countTo, rest}
 use Rattle.agreement.specs.Gating.{goesOn}
 use Rattle.agreement.specs.Ticking.{sheetChip}
-use Rattle.agreement.specs.Watching.{Watch, unprogrammed, watching, watchTick}
+use Rattle.agreement.specs.Watching.{Watch, unprogrammed, watching, watchTick, IsFixed, HoldsValue}
 use Rattle.agreement.proofs.CountsDown.{countsDown, every-down}
 use Rattle.agreement.proofs.Idling.{state-stands, output-rests}
 use Rattle.agreement.proofs.SquarePlace.{halfTicks, Stands}
@@ -39,7 +39,7 @@ use Rattle.agreement.proofs.TrackDown.{loads-down, counts-down}
 use Rattle.agreement.proofs.TrackRate.{loads-rate, counts-rate, reloads-rate, begins-rate}
 use Rattle.agreement.proofs.TrackRest.{restedIn, rests, put-off, count-rests, trigger-rests, down-counts-rest, paused-counts-rest, trigger-idle, deferred-due, held-idle, goes-idle}
 use Rattle.agreement.proofs.TrackSquare.{beginOf, loads-square, counts-square, reloads-square}
-use Rattle.agreement.proofs.Tracking.{Core, coreOf, firstOf, lastOf, view, IsFixed, HoldsValue, Rules, Down, down, Rate, rate, Square, square, Paused, paused, Standing, Arrived, LoadDue, Loading, Counts, LostIn, PhaseAt, Holds, Tracks, not-yet, tracked}
+use Rattle.agreement.proofs.Tracking.{Core, coreOf, firstOf, lastOf, view, Rules, Down, down, Rate, rate, Square, square, Paused, paused, Standing, Arrived, LoadDue, Loading, Counts, LostIn, PhaseAt, Holds, Tracks, not-yet, tracked}
 use Rattle.agreement.proofs.Waiting.{reload-idle}
 use Rattle.agreement.proofs.Written.{Writes, number-writes, legal-number, open-not}
 

@@ -32,11 +32,11 @@ use Rattle.sheet.specs.Loading.{firstByteStops}
 use Rattle.sheet.specs.Ticking.{Chip, chip8253, chip8254, squareHigh}
 use Rattle.sheet.specs.Counter.{Fixed, leftOpen, fixedAt, Phase, awaitsCount, awaitsTrigger, loading, counting, lost, Counter, standing, onCount, outputOnCount, lowered, outputOnFirst, complete, begin}
 use Rattle.agreement.specs.Ticking.{sheetChip}
-use Rattle.agreement.specs.Watching.{Watch, unprogrammed, watching, isFirst, orElse, strays, disturbs, makesDue, putsOff, watchWrite}
+use Rattle.agreement.specs.Watching.{Watch, unprogrammed, watching, isFirst, orElse, strays, disturbs, makesDue, putsOff, watchWrite, IsFixed, HoldsValue}
 use Rattle.agreement.proofs.SquarePlace.{high-there}
 use Rattle.agreement.proofs.SquareValue.{waitsAtZero}
 use Rattle.agreement.proofs.TrackGate.{standing-not}
-use Rattle.agreement.proofs.Tracking.{Core, coreOf, lastOf, view, IsFixed, HoldsValue, Halved, RuleIn, Rules, Down, down, Rate, rate, Square, square, Paused, paused, Standing, AwaitsCount, AwaitsTrigger, LoadDue, WaitsIn, Loading, Counts, LostIn, PhaseAt, Holds, Tracks, not-yet, tracked}
+use Rattle.agreement.proofs.Tracking.{Core, coreOf, lastOf, view, Halved, RuleIn, Rules, Down, down, Rate, rate, Square, square, Paused, paused, Standing, AwaitsCount, AwaitsTrigger, LoadDue, WaitsIn, Loading, Counts, LostIn, PhaseAt, Holds, Tracks, not-yet, tracked}
 
 -- a record with a whole count w written to it, in a state
 abbrev pub done : ℕ → LoadState → ChannelState → Core → Core

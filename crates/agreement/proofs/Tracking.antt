@@ -32,7 +32,7 @@ use Rattle.sheet.specs.Counter.{Fixed, leftOpen, fixedAt, Phase, awaitsCount, a
 use Rattle.agreement.specs.Words.{sheetAccess}
 use Rattle.agreement.specs.Ticking.{sheetChip}
 use Rattle.agreement.specs.Gating.{underway, goesOn}
-use Rattle.agreement.specs.Watching.{Watch, unprogrammed, watching}
+use Rattle.agreement.specs.Watching.{Watch, unprogrammed, watching, IsFixed, HoldsValue}
 use Rattle.agreement.proofs.CountsDown.{countsDown}
 use Rattle.agreement.proofs.HighAtZero.{endsHigh}
 use Rattle.agreement.proofs.Strobe.{isStrobe}
@@ -84,15 +84,6 @@ view c p o v =
       output = o;
       value = v;
     }
-
--- what is fixed is so
-abbrev pub IsFixed : {A : Type 0} → Fixed A → A → Type 0
-IsFixed leftOpen x = Unit
-IsFixed (fixedAt y) x = x ≡ y
-
-abbrev pub HoldsValue : Fixed ℕ → Bool → ℕ → Type 0
-HoldsValue leftOpen bcd e = Unit
-HoldsValue (fixedAt v) bcd e = e ≡ held bcd v
 
 -- "`reload_on_trigger` false, true, false, false" in modes 0 to 3 (01)
 abbrev pub RuleIn : ChannelMode → Bool → Type 0

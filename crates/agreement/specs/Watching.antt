@@ -2,10 +2,12 @@
 -- the counter is told so, in the sheets' words and the programmer's. What it says after that is proved of the board (crate waveform).
 use Prim.Native.Nat.{ℕ, _%_}
 use mathlib.Core.Bool.{Bool, true, false, not, cond, _&&_, _||_}
+use mathlib.Core.Path.{_≡_}
 use lib.Dec.{eqb}
+use Rattle.channel.specs.declared.Channel.{Channel}
 use Rattle.sheet.specs.ControlByte.{Access, lowByte, highByte, lowThenHigh}
 use Rattle.sheet.specs.Gate.{fallEffect, riseEffect}
-use Rattle.sheet.specs.Ticking.{Chip, chip8253, chip8254, squareHigh}
+use Rattle.sheet.specs.Ticking.{Chip, chip8253, chip8254, held, squareHigh}
 use Rattle.sheet.specs.Counter.{Fixed, leftOpen, fixedAt, Phase, awaitsCount, awaitsTrigger, loading, counting, lost, Counter, standing, programmed, lowered, rest, nowhere, tick, write, gateTo}
 
 -- What is known of a channel: nothing but its gate before the mode set (C5); from there on the sheets' counter, and whether the load that is due comes one tick
@@ -151,3 +153,21 @@ strayed lost = lost
 abbrev pub watchHand : Watch → Watch
 watchHand (unprogrammed gate one) = unprogrammed gate one
 watchHand (watching k late one) = watching (standing k (strayed (k .phase)) (k .output) leftOpen) late one
+
+-- what is fixed is so: a level, and a value as the counter holds it
+abbrev pub IsFixed : {A : Type 0} → Fixed A → A → Type 0
+IsFixed leftOpen x = Unit
+IsFixed (fixedAt y) x = x ≡ y
+
+abbrev pub HoldsValue : Fixed ℕ → Bool → ℕ → Type 0
+HoldsValue leftOpen bcd e = Unit
+HoldsValue (fixedAt v) bcd e = e ≡ held bcd v
+
+-- a channel's output pin and counting element are what the sheets' counter says
+pub record Shows (k : Counter) (c : Channel) : Type 0 where
+  pub shows-output : IsFixed (k .output) (c .pins .output)
+  pub shows-value : HoldsValue (k .value) (k .bcd) (c .counter .«counting_element»)
+
+abbrev pub ShowsIn : Watch → Channel → Type 0
+ShowsIn (unprogrammed gate one) c = Unit
+ShowsIn (watching k late one) c = Shows k c

@@ -7,3 +7,4 @@ pub mod Tells
 pub mod WorkedOff
 pub mod AllQuiet
 pub mod Apart
+pub mod Nth

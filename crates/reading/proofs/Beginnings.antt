@@ -34,6 +34,7 @@ use Rattle.step.specs.Operation.{LoadCycle, Reset, WorkOff}
 use Rattle.step.specs.Step.{step}
 use Rattle.step.specs.Accepted.{IsAccepted}
 use Rattle.step.specs.Owed.{madeBy}
+use Rattle.step.proofs.Made.{ticks-made}
 use Rattle.step.proofs.Three.{fresh-three, step-three}
 use Rattle.reading.specs.Beginning.{mayBegin, Begins}
 use Rattle.reading.specs.Passing.{Unloaded}
@@ -42,8 +43,8 @@ use Rattle.reading.specs.Reading.{controlWrite}
 use Rattle.reading.specs.Spelling.{remaining}
 use Rattle.reading.proofs.May.{not-latched, low-then-high, no-half-read, may-begin}
 use Rattle.reading.proofs.Counted.{Undisturbed, undisturbed-may, Counted}
-use Rattle.reading.proofs.Ticked.{next-tick, ticks-counted}
-use Rattle.reading.proofs.Worked.{ticks-made}
+use Rattle.owed.proofs.Nth.{next-tick}
+use Rattle.reading.proofs.Ticked.{ticks-counted}
 use Rattle.reading.proofs.Spelling.{left-below, left-good}
 use Rattle.reading.proofs.Stands.{Stands, counted-stands}
 use Rattle.reading.proofs.Turns.{none-owed, command-turn}

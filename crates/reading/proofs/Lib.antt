@@ -1,7 +1,6 @@
 pub mod May
 pub mod Counted
 pub mod Ticked
-pub mod Worked
 pub mod Spelling
 pub mod Stands
 pub mod Holds

@@ -39,13 +39,13 @@ use Rattle.refusal.proofs.Apart.{refused-not}
 use Rattle.step.proofs.Owing.{by-owed}
 use Rattle.step.proofs.Leaves.{refused-leaves}
 use Rattle.step.proofs.Accepted.{by-reply}
+use Rattle.step.proofs.Made.{ticks-made}
 use Rattle.step.proofs.Three.{step-three}
 use Rattle.step.proofs.Touched.{write-stays, untouched-stays}
 use Rattle.reading.specs.Passing.{MayWrite, MayPass, AllMayPass, Unloaded, NoLoad, NoLoads}
 use Rattle.reading.specs.Counts.{takenIn, countsBy, countsIn, countsOn}
 use Rattle.reading.proofs.Counted.{Counted, counted-none, counted-kept, counted-then, counted-counts}
 use Rattle.reading.proofs.Ticked.{ticks-counted}
-use Rattle.reading.proofs.Worked.{ticks-made}
 
 -- channel n is the one that is read, or another
 by-same : (i n : ℕ) (P : Type 0) → (n ≡ i → P) → ((i ≡ n → ⊥) → P) → P

@@ -17,3 +17,4 @@ pub mod Kept
 pub mod Warp
 pub mod Numbers
 pub mod Accepted
+pub mod Made

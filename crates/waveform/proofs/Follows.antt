@@ -1,0 +1,81 @@
+-- The board follows the sheets' counter over every list of calls. Assumes nothing.
+use Prim.Native.Nat.{ℕ, zero, suc, _<_}
+use mathlib.Core.Bool.{Bool, true, false}
+use mathlib.Core.List.{List, [], _∷_}
+use mathlib.Core.Path.{_≡_, refl, sym, ap, _∙_, subst}
+use native.Mathlib.Omega.{arith}
+use lib.ListN.{length}
+use Rattle.refusal.specs.Reply.{Reply, refused, accepted}
+use Rattle.channel.specs.declared.Channel.{Channel}
+use Rattle.channel.specs.declared.PitType.{PitType}
+use Rattle.channel.specs.Fresh as channel
+use Rattle.board.specs.declared.Board.{Board}
+use Rattle.board.specs.Board.{channelAt}
+use Rattle.board.specs.Making.{fresh}
+use Rattle.board.specs.Outcome.{Value}
+use Rattle.step.specs.Operation.{Operation}
+use Rattle.step.specs.Step.{step, steps}
+use Rattle.step.proofs.Accepted.{by-reply}
+use Rattle.step.proofs.Kept.{settings-kept}
+use Rattle.step.proofs.Leaves.{refused-leaves}
+use Rattle.step.proofs.Three.{fresh-three, step-three}
+use Rattle.sheet.specs.Counter.{leftOpen, fixedAt}
+use Rattle.agreement.specs.Watching.{Watch, unprogrammed, watching, ShowsIn}
+use Rattle.agreement.proofs.Tracking.{coreOf, Tracks, not-yet, tracked}
+use Rattle.waveform.specs.Heard.{unlessRefused, heard, hears, watchOver, IsByte, AllBytes}
+use Rattle.waveform.specs.Follows.{Follows, FollowsFresh}
+use Rattle.waveform.proofs.Turns.{turn}
+
+-- one call, accepted or refused
+call-tracks : (b : Board) → length (b .channels) ≡ 3 → (i : ℕ) → i < 3 → (w : Watch) → Tracks (b .model) w (coreOf (channelAt b i)) → (o : Operation) → IsByte o
+    → Tracks (b .model) (hears i b o w) (coreOf (channelAt (step b o .board) i))
+call-tracks b three i on w now o small =
+    by-reply b o (λ (reply : Reply Value). Tracks (b .model) (unlessRefused reply w (heard i b o w)) (coreOf (channelAt (step b o .board) i)))
+    (λ number e. subst (λ (d : Board). Tracks (b .model) w (coreOf (channelAt d i))) (sym (refused-leaves b o number e .0)) now)
+    (λ value e. turn b three i on w now o small value e)
+
+pub calls-track : (b : Board) → length (b .channels) ≡ 3 → (i : ℕ) → i < 3 → (w : Watch) → Tracks (b .model) w (coreOf (channelAt b i))
+    → (os : List Operation) → AllBytes os → Tracks (b .model) (watchOver i b os w) (coreOf (channelAt (steps b os) i))
+calls-track b three i on w now [] small = now
+calls-track b three i on w now (o ∷ os) small =
+    let same : step b o .board .model ≡ b .model = settings-kept b o .0 in
+    subst (λ (m : PitType). Tracks m (watchOver i (step b o .board) os (hears i b o w)) (coreOf (channelAt (steps (step b o .board) os) i))) same
+    (calls-track (step b o .board) (step-three b three o) i on (hears i b o w)
+    (subst (λ (m : PitType). Tracks m (hears i b o w) (coreOf (channelAt (step b o .board) i))) (sym same) (call-tracks b three i on w now o (small .0)))
+    os
+    (small .1))
+
+-- what is in step shows what the counter says
+shows : (model : PitType) (w : Watch) (c : Channel) → Tracks model w (coreOf c) → ShowsIn w c
+shows model w c (not-yet one is rule) = subst (λ (x : Watch). ShowsIn x c) (sym is) tt
+shows model w c (tracked p o v late one is h) =
+    subst (λ (x : Watch). ShowsIn x c) (sym is) (record { shows-output = h .output-is; shows-value = h .value-is })
+
+pub follows : Follows
+follows b three i on os small =
+    shows (b .model) (watchOver i b os (unprogrammed (channelAt b i .pins .gate) leftOpen)) (channelAt (steps b os) i)
+    (calls-track b three i on (unprogrammed (channelAt b i .pins .gate) leftOpen) (not-yet leftOpen refl tt) os small)
+
+fresh-at : (model : PitType) (divisor i : ℕ) → i < 3 → channelAt (fresh model divisor) i ≡ channel.fresh
+unfolding fresh
+fresh-at model divisor zero on = refl
+fresh-at model divisor (suc zero) on = refl
+fresh-at model divisor (suc (suc zero)) on = refl
+fresh-at model divisor (suc (suc (suc i))) on = absurd (omega arith)
+
+fresh-tracks : (model : PitType) → Tracks model (unprogrammed true (fixedAt false)) (coreOf channel.fresh)
+unfolding channel.freshAt
+fresh-tracks model = not-yet (fixedAt false) refl refl
+
+fresh-model : (model : PitType) (divisor : ℕ) → fresh model divisor .model ≡ model
+unfolding fresh
+fresh-model model divisor = refl
+
+pub follows-fresh : FollowsFresh
+follows-fresh model divisor i on os small =
+    shows (fresh model divisor .model) (watchOver i (fresh model divisor) os (unprogrammed true (fixedAt false))) (channelAt (steps (fresh model divisor) os) i)
+    (calls-track (fresh model divisor) (fresh-three model divisor) i on (unprogrammed true (fixedAt false))
+    (subst (λ (c : Channel). Tracks (fresh model divisor .model) (unprogrammed true (fixedAt false)) (coreOf c)) (sym (fresh-at model divisor i on))
+    (fresh-tracks (fresh model divisor .model)))
+    os
+    small)

@@ -1,0 +1,79 @@
+-- What a channel of the board hears of a call, in the sheets' words: a control word, a byte, a level at its gate, ticks. What the sheets' counter makes of it, with
+-- our departures put in, is agreement's (specs/Watching.antt there).
+use Prim.Native.Nat.{ℕ, _+_, _<_}
+use mathlib.Core.Bool.{Bool, cond}
+use mathlib.Core.List.{List, [], _∷_}
+use lib.Dec.{eqb}
+use Rattle.numbers.specs.Times.{times}
+use Rattle.refusal.specs.Reply.{Reply, refused, accepted}
+use Rattle.board.specs.declared.Board.{Board}
+use Rattle.board.specs.Outcome.{Value}
+use Rattle.step.specs.Operation.{Operation, WritePort, ReadPort, SetChannelGate, Counts, LoadCycle, CatchUp, Run, Reset, GetOutputState, GetChannelCount, DoesChannelRetrigger, IsDirty, GetTimerAccum, WorkOff}
+use Rattle.step.specs.Step.{step}
+use Rattle.step.specs.Owed.{madeBy}
+use Rattle.sheet.specs.ControlByte.{Request, noCounter, latchCounter, program, requestOf}
+use Rattle.sheet.specs.Ticking.{Chip}
+use Rattle.agreement.specs.Ticking.{sheetChip}
+use Rattle.agreement.specs.Watching.{Watch, watchProgram, watchReset, watchTick, watchGate, watchWrite, watchHand}
+
+-- C1: a control byte, as the sheet reads it. A latch is nothing to the output and the count (R2: "counting goes on underneath")
+abbrev pub heardControl : ℕ → Request → Watch → Watch
+heardControl i noCounter w = w
+heardControl i (latchCounter n) w = w
+heardControl i (program n access mode bcd) w = cond (eqb n i) (watchProgram w access mode bcd) w
+
+-- 01: "The data port numbers are the IBM PC's: 0x40, 0x41, 0x42."; 0x43 is the command port
+abbrev pub heardByte : ℕ → Chip → Bool → ℕ → ℕ → Watch → Watch
+heardByte i chip defer port byte w =
+    cond (eqb port (0x40 + i)) (watchWrite chip defer w byte) (cond (eqb port 0x43) (heardControl i (requestOf byte) w) w)
+
+-- what channel i of the board hears of an accepted call
+abbrev pub heard : ℕ → Board → Operation → Watch → Watch
+heard i b (WritePort port byte events place) w = heardByte i (sheetChip (b .model)) (b .defer) port byte w
+heard i b (ReadPort port) w = w
+heard i b (SetChannelGate channel level events place) w = cond (eqb channel i) (watchGate w level) w
+heard i b (Counts channel number) w = cond (eqb channel i) (watchHand w) w
+heard i b (LoadCycle channel) w = cond (eqb channel i) (watchHand w) w
+heard i b (CatchUp given) w = w
+heard i b (Run given) w = w
+heard i b Reset w = watchReset w
+heard i b (GetOutputState channel) w = w
+heard i b (GetChannelCount channel) w = w
+heard i b (DoesChannelRetrigger channel) w = w
+heard i b (IsDirty channel) w = w
+heard i b GetTimerAccum w = w
+heard i b (WorkOff stated events place) w = times (madeBy (step b (WorkOff stated events place) .reply)) (watchTick (sheetChip (b .model))) w
+
+-- a refused call is not heard
+abbrev pub unlessRefused : Reply Value → Watch → Watch → Watch
+unlessRefused (refused number) old new = old
+unlessRefused (accepted value) old new = new
+
+abbrev pub hears : ℕ → Board → Operation → Watch → Watch
+hears i b o w = unlessRefused (step b o .reply) w (heard i b o w)
+
+-- .. over a list of calls, each when its turn comes
+abbrev pub watchOver : ℕ → Board → List Operation → Watch → Watch
+watchOver i b [] w = w
+watchOver i b (o ∷ os) w = watchOver i (step b o .board) os (hears i b o w)
+
+-- a port is eight bits wide
+abbrev pub IsByte : Operation → Type 0
+IsByte (WritePort port byte events place) = byte < 256
+IsByte (ReadPort port) = Unit
+IsByte (SetChannelGate channel level events place) = Unit
+IsByte (Counts channel number) = Unit
+IsByte (LoadCycle channel) = Unit
+IsByte (CatchUp given) = Unit
+IsByte (Run given) = Unit
+IsByte Reset = Unit
+IsByte (GetOutputState channel) = Unit
+IsByte (GetChannelCount channel) = Unit
+IsByte (DoesChannelRetrigger channel) = Unit
+IsByte (IsDirty channel) = Unit
+IsByte GetTimerAccum = Unit
+IsByte (WorkOff stated events place) = Unit
+
+abbrev pub AllBytes : List Operation → Type 0
+AllBytes [] = Unit
+AllBytes (o ∷ os) = IsByte o × AllBytes os
