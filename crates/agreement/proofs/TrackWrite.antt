@@ -87,7 +87,7 @@ no-disturb chip8254 m loading x other = refl
 no-disturb chip8254 m (counting n j) x other = simp other
 no-disturb chip8254 m lost x other = refl
 
-first-undisturbed : (chip : Chip) (m x : ℕ) → disturbs chip m awaitsCount x ≡ false
+pub first-undisturbed : (chip : Chip) (m x : ℕ) → disturbs chip m awaitsCount x ≡ false
 first-undisturbed chip8253 m x = refl
 first-undisturbed chip8254 m x = refl
 

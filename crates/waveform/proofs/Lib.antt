@@ -1,2 +1,6 @@
 pub mod Turns
 pub mod Follows
+pub mod Running
+pub mod Ticks
+pub mod Opening
+pub mod Pin

@@ -1,2 +1,3 @@
 pub mod Heard
 pub mod Follows
+pub mod Pin
