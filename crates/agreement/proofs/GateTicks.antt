@@ -5,7 +5,7 @@ use Rattle.agreement.proofs.GateStops as stops
 use Rattle.agreement.proofs.GateOutput as output
 use Rattle.agreement.proofs.GateNothing as nothing
 use Rattle.agreement.proofs.GateRise as rise
-use Rattle.agreement.proofs.GateHigh as high
+use Rattle.agreement.proofs.GateRisen as risen
 
 pub gate-agrees : GatesAgree
 gate-agrees model c acts =
@@ -18,8 +18,7 @@ gate-agrees model c acts =
       low-strobes-once = λ strobe going. output.low-strobes-once model c going strobe;
       low-nothing = nothing.low-nothing model c;
       rising-loads = rise.rising-loads model c acts;
-      rising-nothing = high.rising-nothing c;
-      risen-counts = high.risen-counts model c;
-      high-counts = high.high-counts c;
+      rising-nothing = risen.rising-nothing c;
+      risen-counts = risen.risen-counts model c;
       high-nothing = nothing.high-nothing model c;
     }

@@ -1,11 +1,11 @@
 -- M2: "Period N": from N down to 1, and again; the output is low for the one tick at which the element is 1. Assumes nothing.
-use Prim.Native.Nat.{ℕ, zero, suc, _-_, _%_, _<_, _≤_}
+use Prim.Native.Nat.{ℕ, suc, _-_, _%_, _<_, _≤_}
 use mathlib.Core.Bool.{Bool, true, false, not}
 use mathlib.Core.Path.{_≡_, refl, sym, ap, _∙_}
-use native.Mathlib.Nat.{zero-mod, sub-zero, suc-mod, mod-lt, mod-eq-of-lt, mod-self}
+use native.Mathlib.Nat.{suc-mod, mod-lt, mod-eq-of-lt}
 use native.Mathlib.Omega.{arith}
 use lib.Dec.{eqb}
-use borrow.Author.Tests.{eq-eqb, ne-eqb, eqb-true, eqb-false}
+use borrow.Author.Tests.{eq-eqb, ne-eqb}
 use Rattle.numbers.specs.Radix.{radixCounts}
 use Rattle.channel.specs.declared.Channel.{Channel}
 use Rattle.channel.specs.declared.ChannelMode.{ChannelMode}
@@ -13,28 +13,19 @@ use Rattle.channel.specs.declared.ChannelMode.the-variants.{RateGenerator, Squa
 use Rattle.channel.specs.declared.ChannelState.the-variants.{Counting}
 use Rattle.channel.specs.declared.PitType.{PitType}
 use Rattle.channel.specs.declared.ReloadFlag.the-variants.{Normal}
-use Rattle.channel.specs.Modes.{modeNumber}
 use Rattle.count.specs.Count.{count}
 use Rattle.load.proofs.Value.{value-whole}
-use Rattle.sheet.specs.Ticking.{held, rateValue, valueAfter, outputAfter}
+use Rattle.sheet.specs.Ticking.{held, rateValue}
 use Rattle.tick.specs.declared.due.Kind.the-variants.{Reload}
 use Rattle.tick.specs.Due.{runs, reloadsFrom, due}
 use Rattle.tick.specs.Tick.{neverLoaded, tick}
 use Rattle.agreement.specs.Gating.{goesOn}
-use Rattle.agreement.specs.Ticking.{sheetChip, LoadsNext, ticksAfter, AsTheSheetSays}
 use Rattle.agreement.proofs.HeldCounts.{held-minus, counts-round}
 use Rattle.agreement.proofs.HeldMarks.{held-one}
-use Rattle.agreement.proofs.TickLoads.{LoadedAt, tick-loads, tick-reloads}
+use Rattle.agreement.proofs.TickLoads.{LoadedAt, tick-reloads}
 use Rattle.agreement.proofs.TickCounts.{CountedTo, due-count, due-reload, tick-counts}
-use Rattle.agreement.proofs.AfterLoad.{radix-after, mode-after, reload-after, runs-after}
 
 -- the place in the period, one tick on: the next one, or the first after the last
-last-place : (n j : ℕ) → 2 ≤ n → rateValue n j ≡ 1 → rateValue n (suc j) ≡ n
-last-place n j least one =
-    let b : j % n < n = mod-lt j (omega arith) in
-    let e : suc (j % n) ≡ n = omega arith in
-    rw (suc-mod j n, e, mod-self n) (sub-zero n)
-
 pub next-place : (n j : ℕ) → 2 ≤ n → (rateValue n j ≡ 1 → ⊥) → rateValue n (suc j) ≡ rateValue n j - 1
 next-place n j least other =
     let b : j % n < n = mod-lt j (omega arith) in
@@ -92,43 +83,4 @@ module _ (model : PitType) (bcd : Bool) (v : ℕ) (c : Channel) (mode : c .contr
         rate-value = step .has-value;
         rate-level = step .has-level ∙ rw mode (ap not (held-one bcd (v - 1) (omega arith)));
         still-counting = step .is-counting;
-      }
-
-module _ (model : PitType) (c : Channel) (n : ℕ) (next : LoadsNext model c n) (mode : c .control .mode ≡ RateGenerator) where
-  least : 2 ≤ n
-  least = rw mode at (next .at-least)
-
-  rate-first : RateAt (c .control .«bcd_mode») n (tick model c)
-  rate-first =
-      rate-loaded (c .control .«bcd_mode») n _ c (tick model c) least
-      (tick-loads c (rate-may (c .control .«bcd_mode») n c least (next .at-most) mode (next .written)) model (next .load-due))
-      (rw mode refl)
-      mode
-      (next .written)
-
-  rate-next : (j : ℕ) (one : Bool) → eqb (rateValue n j) 1 ≡ one → RateAt (c .control .«bcd_mode») (rateValue n j) (ticksAfter model c j)
-      → RateAt (c .control .«bcd_mode») (rateValue n (suc j)) (ticksAfter model c (suc j))
-  rate-next j true one now =
-      rw (last-place n j least (eqb-true _ 1 one))
-      (rate-reloads model (c .control .«bcd_mode») (rateValue n j) (ticksAfter model c j)
-      (mode-after model c j ∙ mode) (runs-after model c j ∙ next .running) now (omega (arith, next .at-most))
-      n least (next .at-most) (reload-after model c j ∙ next .written) (eqb-true _ 1 one))
-  rate-next j false other now =
-      let b : j % n < n = mod-lt j (omega (arith, least)) in
-      rw (next-place n j least (eqb-false _ 1 other))
-      (rate-counts model (c .control .«bcd_mode») (rateValue n j) (ticksAfter model c j)
-      (mode-after model c j ∙ mode) (runs-after model c j ∙ next .running) now (omega (arith, next .at-most))
-      (radix-after model c j) (omega arith) (eqb-false _ 1 other))
-
-  rate-at : (j : ℕ) → RateAt (c .control .«bcd_mode») (rateValue n j) (ticksAfter model c j)
-  rate-at zero = rw (zero-mod n, sub-zero n) rate-first
-  rate-at (suc j) = rate-next j (eqb (rateValue n j) 1) refl (rate-at j)
-
-  pub rate-agrees : (j : ℕ) → AsTheSheetSays model c n j
-  rate-agrees j =
-      record {
-        value-agrees =
-            rate-at j .rate-value
-            ∙ ap (λ (m : ChannelMode). held (c .control .«bcd_mode») (valueAfter (sheetChip model) (c .control .«bcd_mode») (modeNumber m) n j)) (sym mode);
-        output-agrees = rate-at j .rate-level ∙ ap (λ (m : ChannelMode). outputAfter (modeNumber m) n j) (sym mode);
       }

@@ -1,26 +1,22 @@
 -- M3, M3-8253, M3-8254: in mode 3 the output and the value after any number of ticks are the sheets', on both chips and in both radixes. Assumes nothing.
 use Prim.Native.Nat.{ℕ, zero, suc, _<_, _≤_}
-use mathlib.Core.Bool.{Bool, true, false, not}
-use mathlib.Core.Path.{_≡_, refl, ap, ap₂, sym, _∙_, subst}
+use mathlib.Core.Bool.{Bool, not}
+use mathlib.Core.Path.{_≡_, refl, sym, _∙_, subst}
 use native.Mathlib.Nat.{le-trans}
 use native.Mathlib.Omega.{arith}
-use lib.Dec.{ltb}
-use borrow.Author.Tests.{ltb-true, ltb-false}
 use Rattle.numbers.specs.Radix.{radixCounts}
 use Rattle.channel.specs.declared.Channel.{Channel}
-use Rattle.channel.specs.declared.ChannelMode.the-variants.{SquareWaveGenerator}
 use Rattle.channel.specs.declared.PitType.{PitType}
 use Rattle.channel.specs.declared.ReloadFlag.{ReloadFlag}
 use Rattle.channel.specs.declared.ReloadFlag.the-variants.{Normal, ReloadNextCycle}
-use Rattle.tick.specs.Tick.{loadAt, tick}
-use Rattle.sheet.specs.Ticking.{held, squareHigh, squareValue}
-use Rattle.agreement.specs.Ticking.{sheetChip, LoadsNext, ticksAfter, AsTheSheetSays}
-use Rattle.agreement.proofs.SquarePlace.{halfTicks, Stands, high-there, since-there, stands-first, stands-on, stands-over}
+use Rattle.tick.specs.Tick.{tick}
+use Rattle.sheet.specs.Ticking.{held}
+use Rattle.agreement.specs.Words.{sheetChip}
+use Rattle.agreement.proofs.SquarePlace.{halfTicks}
 use Rattle.agreement.proofs.SquareValue.{halfValue, loadedCount, waitsAtZero, Moves, counts, stops, Ends, at-once, waited, moves, ends, loaded-above, begins, at-most-count}
-use Rattle.agreement.proofs.SquareSet.{Set, At, load-at}
+use Rattle.agreement.proofs.SquareSet.{At}
 use Rattle.agreement.proofs.SquareHeld.{held-parity}
 use Rattle.agreement.proofs.SquareTick as by-tick
-use Rattle.agreement.proofs.TickKeeps.{Setting, setting, tick-keeps}
 
 -- a counter of 0 is one that waits to be loaded: on the 8254 one tick passes there
 abbrev pub flagOf : ℕ → ReloadFlag
@@ -89,93 +85,3 @@ module _ (model : PitType) (bcd : Bool) (n : ℕ) (least : 2 ≤ n) (most : n �
 -- nothing else is written: the count is n all the time
 pub waits-alike : (model : PitType) (bcd high : Bool) (n : ℕ) → waitsAtZero model (held bcd n) high ≡ waitsAtZero model n high
 waits-alike model bcd high n = simp (held-parity bcd n)
-
-module _ (model : PitType) (bcd : Bool) (n : ℕ) (least : 2 ≤ n) (most : n ≤ radixCounts bcd) where
-  -- the channel and the sheet, j ticks after the load, stand at one place
-  record Follows (d : Channel) (j : ℕ) : Type 0 where
-    high : Bool
-    age : ℕ
-    stands : Stands n j high age
-    stays : In model bcd n least most high age d
-    written : d .load .«reload_value» ≡ held bcd n
-
-  alike : (high : Bool) (d : Channel) → d .load .«reload_value» ≡ held bcd n → Alike model bcd n least most high d
-  alike high d written = rw written (waits-alike model bcd high n)
-
-  next-by : (high : Bool) (s j : ℕ) (d : Channel) (b : Bool) → ltb (suc s) (halfTicks high n) ≡ b → Stands n j high s
-      → In model bcd n least most high s d → d .load .«reload_value» ≡ held bcd n → Follows (tick model d) (suc j)
-  next-by high s j d true test stands h written =
-      record {
-        high = high;
-        age = suc s;
-        stands = stands-on n j least high s stands (ltb-true (suc s) (halfTicks high n) test);
-        stays = inside model bcd n least most high s d (ltb-true (suc s) (halfTicks high n) test) (alike high d written) h;
-        written = ap (λ (t : Setting). t .reload) (tick-keeps model d) ∙ written;
-      }
-  next-by high s j d false test stands h written =
-      let last : suc s ≡ halfTicks high n = omega (arith, ltb-false (suc s) (halfTicks high n) test) in
-      record {
-        high = not high;
-        age = 0;
-        stands = stands-over n j least high s stands last;
-        stays =
-            begun model bcd n least most (not high) (tick model d)
-            (over model bcd n least most n d written least most high s last (alike high d written) h);
-        written = ap (λ (t : Setting). t .reload) (tick-keeps model d) ∙ written;
-      }
-
-  next : (d : Channel) (j : ℕ) → Follows d j → Follows (tick model d) (suc j)
-  next d j f =
-      next-by (f .high) (f .age) j d (ltb (suc (f .age)) (halfTicks (f .high) n)) refl (f .stands) (f .stays) (f .written)
-
-  -- so the channel has what the sheet says
-  shows-level : (d : Channel) (j : ℕ) → Follows d j → d .pins .output ≡ squareHigh n j
-  shows-level d j f = f .stays .level-is ∙ sym (high-there (f .high) n j (f .age) (f .stands))
-
-  shows-value : (d : Channel) (j : ℕ) → Follows d j → d .counter .«counting_element» ≡ held bcd (squareValue (sheetChip model) n j)
-  shows-value d j f =
-      f .stays .element-is
-      ∙ ap₂ (λ (h : Bool) (s : ℕ). held bcd (halfValue (sheetChip model) n h s))
-      (sym (high-there (f .high) n j (f .age) (f .stands)))
-      (sym (since-there (f .high) n j (f .age) (f .stands)))
-
-module _ (model : PitType) (c : Channel) (n : ℕ) (starts : LoadsNext model c n) (square : c .control .mode ≡ SquareWaveGenerator) where
-  starts-set : Set model (c .control .«bcd_mode») c
-  starts-set =
-      record {
-        mode-is = square;
-        radix-is = refl;
-        masked = starts .mask square;
-        gate-high = simp square at (starts .running);
-      }
-
-  from-two : 2 ≤ n
-  from-two = simp square at (starts .at-least)
-
-  first-tick : tick model c ≡ loadAt true c
-  unfolding tick
-  first-tick = simp (starts .load-due, square)
-
-  follows : (j : ℕ) → Follows model (c .control .«bcd_mode») n from-two (starts .at-most) (ticksAfter model c j) j
-  follows zero =
-      record {
-        high = true;
-        age = 0;
-        stands = stands-first n 0 from-two;
-        stays =
-            begun model (c .control .«bcd_mode») n from-two (starts .at-most) true (tick model c)
-            (rw first-tick (load-at model (c .control .«bcd_mode») n true c (starts .written) starts-set from-two (starts .at-most)));
-        written = ap (λ (t : Setting). t .reload) (tick-keeps model c) ∙ starts .written;
-      }
-  follows (suc j) = next model (c .control .«bcd_mode») n from-two (starts .at-most) (ticksAfter model c j) j (follows j)
-
-pub square-agrees : (model : PitType) (c : Channel) (n : ℕ) → LoadsNext model c n → c .control .mode ≡ SquareWaveGenerator → (j : ℕ)
-    → AsTheSheetSays model c n j
-square-agrees model c n starts square j =
-    let f = follows model c n starts square j in
-    record {
-      value-agrees =
-          shows-value model (c .control .«bcd_mode») n (from-two model c n starts square) (starts .at-most) (ticksAfter model c j) j f ∙ simp square;
-      output-agrees =
-          shows-level model (c .control .«bcd_mode») n (from-two model c n starts square) (starts .at-most) (ticksAfter model c j) j f ∙ simp square;
-    }

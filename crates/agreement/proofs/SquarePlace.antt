@@ -1,8 +1,8 @@
 -- M3: where in a period a tick stands, as a half and the ticks since that half began; and the next tick's place. Numbers alone. Assumes nothing.
 use Prim.Native.Nat.{ℕ, suc, _+_, _-_, _%_, _<_, _≤_}
-use mathlib.Core.Bool.{Bool, true, false, not}
+use mathlib.Core.Bool.{Bool, true, false}
 use mathlib.Core.Path.{_≡_, _∙_}
-use native.Mathlib.Nat.{suc-mod, mod-eq-of-lt, mod-self}
+use native.Mathlib.Nat.{suc-mod, mod-eq-of-lt}
 use native.Mathlib.Omega.{arith}
 use borrow.Author.Tests.{lt-ltb, le-ltb}
 use Rattle.sheet.specs.Ticking.{highTicks, squareHigh, sinceChange}
@@ -39,18 +39,8 @@ module _ (n j : ℕ) (low : 2 ≤ n) where
   goes-on : (p : ℕ) → j % n ≡ p → suc p < n → suc j % n ≡ suc p
   goes-on p e h = suc-mod j n ∙ rw e (mod-eq-of-lt h)
 
-  begins-again : (p : ℕ) → j % n ≡ p → suc p ≡ n → suc j % n ≡ 0
-  begins-again p e h = suc-mod j n ∙ rw (e, h) (mod-self n)
-
-  -- a tick inside a half makes it older ..
+  -- a tick inside a half makes it older
   pub stands-on : (high : Bool) (s : ℕ) → Stands n j high s → suc s < halfTicks high n → Stands n (suc j) high (suc s)
   stands-on true s h inside = record { in-period = goes-on s (h .in-period) (omega arith); in-half = inside }
   stands-on false s h inside =
       record { in-period = goes-on (highTicks n + s) (h .in-period) (omega arith) ∙ omega arith; in-half = inside }
-
-  -- .. and its last begins the other
-  pub stands-over : (high : Bool) (s : ℕ) → Stands n j high s → suc s ≡ halfTicks high n → Stands n (suc j) (not high) 0
-  stands-over true s h last =
-      record { in-period = goes-on s (h .in-period) (omega arith) ∙ omega arith; in-half = omega arith }
-  stands-over false s h last =
-      record { in-period = begins-again (highTicks n + s) (h .in-period) (omega arith); in-half = omega arith }

@@ -48,7 +48,7 @@ due-in (Counting Normal) c goes running = simp running
 due-in (Counting ReloadNextCycle) c goes running = absurd (false≢true goes)
 
 module _ (c : Channel) (goes : goesOn (c .counter .«channel_state») ≡ true) where
-  pub due-on : runs c ≡ true → due c ≡ cond (reloadsFrom (c .control .mode) (c .counter .«counting_element»)) Reload Count
+  due-on : runs c ≡ true → due c ≡ cond (reloadsFrom (c .control .mode) (c .counter .«counting_element»)) Reload Count
   unfolding due
   due-on running = due-in (c .counter .«channel_state») c goes running
 

@@ -1,10 +1,9 @@
 -- A tick never takes a channel back to wait for a count: none that has come is forgotten. Assumes nothing.
-use Prim.Native.Nat.{ℕ}
-use mathlib.Core.Bool.{Bool, true, false, false≢true}
+use mathlib.Core.Bool.{Bool, false}
 use mathlib.Core.Path.{_≡_, refl, ap, _∙_}
 use Rattle.numbers.specs.Times.{times}
 use Rattle.channel.specs.declared.Channel.{Channel}
-use Rattle.channel.specs.declared.ChannelState.the-variants.{WaitingForLoadCycle, Counting}
+use Rattle.channel.specs.declared.ChannelState.the-variants.{Counting}
 use Rattle.channel.specs.declared.PitType.{PitType}
 use Rattle.channel.specs.declared.ReloadFlag.the-variants.{Normal, ReloadNextCycle}
 use Rattle.channel.specs.Shared.{waitsForReload, isCounting, changeChannelState, changeOutputState, putElement}
@@ -13,7 +12,6 @@ use Rattle.count.specs.Count.{count}
 use Rattle.tick.specs.declared.due.Kind.{Kind}
 use Rattle.tick.specs.declared.due.Kind.the-variants.{Idle, Deferred, Load, Reload, Count}
 use Rattle.tick.specs.Due.{due}
-use Rattle.tick.specs.Level.{loadLevel, reloadLevel}
 use Rattle.tick.specs.Taken.{takes}
 use Rattle.tick.specs.Tick.{agedBy, idle, deferred, neverLoaded, sentBack, withArmed, loaded, loadAt, endsHalf, lingers, halfOver, countingOn, marked, afterCounts, tickBy, tick}
 use Rattle.agreement.proofs.HeldCounts.{counts-state}

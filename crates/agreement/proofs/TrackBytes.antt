@@ -22,15 +22,17 @@ use Rattle.channel.proofs.Pick.{pick-holds}
 use Rattle.load.specs.Finalize.{waitingState, loadsAgain, completeLoad, enterAfter, finalizeLoad}
 use Rattle.load.specs.Write.{putRegister, stopsOnLowByte, stopped, beginsWord, writeLow, writeAt, writeByte}
 use Rattle.sheet.specs.ControlByte.{Access, lowByte, highByte, lowThenHigh}
-use Rattle.sheet.specs.Loading.{countOf, firstByteStops}
+use Rattle.sheet.specs.Loading.{countOf}
 use Rattle.sheet.specs.Ticking.{Chip}
-use Rattle.sheet.specs.Counter.{Fixed, leftOpen, fixedAt, Phase, awaitsCount, lost, Counter, standing, nowhere, onCount, outputOnCount, lowered, outputOnFirst, complete, writeWord, writeIn}
-use Rattle.agreement.specs.Ticking.{sheetChip}
+use Rattle.sheet.specs.Counter.{Fixed, leftOpen, fixedAt, Phase, awaitsCount, lost, Counter, standing}
+use Rattle.sheet.specs.CounterTick.{nowhere}
+use Rattle.sheet.specs.CounterWrite.{onCount, outputOnCount, lowered, outputOnFirst, complete, writeWord, writeIn}
+use Rattle.agreement.specs.Words.{sheetChip}
 use Rattle.agreement.specs.Words.{sheetAccess}
-use Rattle.agreement.specs.Watching.{Watch, unprogrammed, watching, completes, strays, disturbs, lowOf, staysHigh, makesDue, putsOff, watchWrite, IsFixed, HoldsValue}
+use Rattle.agreement.specs.Watching.{Watch, unprogrammed, watching, completes, strays, disturbs, lowOf, staysHigh, makesDue, putsOff, watchWrite, IsFixed}
 use Rattle.agreement.proofs.Loading.{stops-agree}
-use Rattle.agreement.proofs.TrackWrite.{done, entered, done-core, writes-in, is-lowered, begunCore, begun-core, begins}
-use Rattle.agreement.proofs.Tracking.{Core, coreOf, firstOf, view, Rules, PhaseAt, Holds, Tracks, not-yet, tracked}
+use Rattle.agreement.proofs.TrackWrite.{done-core, writes-in, is-lowered, begunCore, begun-core, begins}
+use Rattle.agreement.proofs.Tracking.{coreOf, firstOf, view, Holds, Tracks, not-yet, tracked}
 
 -- a write leaves the gate, and what the mode sets left for loads
 abbrev Left : Channel → Channel → Type 0

@@ -1,9 +1,9 @@
 -- M0, M1, M4, M5 in step with the sheets' counter: the tick that loads, and every tick that counts. Assumes nothing.
 use Prim.Native.Nat.{ℕ, suc, _≤_}
-use mathlib.Core.Bool.{Bool, true, false, not, _&&_, false≢true}
+use mathlib.Core.Bool.{Bool, true, not, _&&_, false≢true}
 use mathlib.Core.Path.{_≡_, refl, sym, ap, _∙_}
 use native.Mathlib.Omega.{arith}
-use lib.Dec.{eqb, ltb}
+use lib.Dec.{ltb}
 use borrow.Author.Tests.{lt-ltb, ne-eqb}
 use Rattle.numbers.specs.Radix.{radixCounts}
 use Rattle.channel.specs.declared.Channel.{Channel}
@@ -11,24 +11,21 @@ use Rattle.channel.specs.declared.ChannelMode.{ChannelMode}
 use Rattle.channel.specs.declared.LoadType.the-variants.{SubsequentLoad}
 use Rattle.channel.specs.declared.PitType.{PitType}
 use Rattle.channel.specs.Modes.{modeNumber}
-use Rattle.count.specs.Count.{count}
 use Rattle.load.proofs.Value.{value-whole}
 use Rattle.tick.specs.declared.due.Kind.the-variants.{Load}
 use Rattle.tick.specs.Due.{runs, due}
 use Rattle.tick.specs.Kept.{TickKeeps}
 use Rattle.tick.specs.Level.{loadLevel, strobes, countLevel}
-use Rattle.tick.specs.Tick.{neverLoaded, tick}
+use Rattle.tick.specs.Tick.{tick}
 use Rattle.tick.proofs.Keeps as kept
 use Rattle.sheet.specs.Ticking.{held, downValue, highFrom, outputAfter, smallest}
 use Rattle.agreement.specs.Gating.{goesOn}
-use Rattle.agreement.specs.Ticking.{sheetChip}
-use Rattle.agreement.proofs.CountsDown.{countsDown, every-down, any-loaded, not-square, value-down, tick-down, count-down}
+use Rattle.agreement.specs.Words.{sheetChip}
+use Rattle.agreement.proofs.CountsDown.{countsDown, every-down, any-loaded, not-square, value-down, tick-down, count-down, endsHigh, isStrobe}
 use Rattle.agreement.proofs.HeldCounts.{held-round}
-use Rattle.agreement.proofs.HighAtZero.{endsHigh}
-use Rattle.agreement.proofs.Strobe.{isStrobe}
 use Rattle.agreement.proofs.TickCounts.{CountedTo}
 use Rattle.agreement.proofs.TickLoads.{LoadedAt, tick-loads}
-use Rattle.agreement.proofs.Tracking.{Core, coreOf, Down, down, Counts, Arrived}
+use Rattle.agreement.proofs.Tracking.{coreOf, Down, down, Arrived}
 use Rattle.agreement.proofs.ZeroAt.{rises, strobes-once, armed-until}
 
 -- the level of a load, and what it leaves of it for the next tick

@@ -1,6 +1,6 @@
 -- G0 to G5 in step with the sheets' counter: every level at the gate. Assumes nothing.
 use Prim.Native.Nat.{ℕ}
-use mathlib.Core.Bool.{Bool, true, false, true≢false, false≢true, not, cond, _&&_}
+use mathlib.Core.Bool.{Bool, true, false, true≢false, false≢true, cond}
 use mathlib.Core.Path.{_≡_, refl, sym, ap, _∙_, subst}
 use lib.Dec.{eqb}
 use Rattle.channel.specs.declared.Channel.{Channel}
@@ -23,15 +23,16 @@ use Rattle.gate.proofs.Keeps.{gate-keeps}
 use Rattle.tick.specs.Due.{triggered}
 use Rattle.sheet.specs.Gate.{fallEffect, riseEffect}
 use Rattle.sheet.specs.Ticking.{held, valueAfter}
-use Rattle.sheet.specs.Counter.{Fixed, leftOpen, fixedAt, Phase, awaitsCount, awaitsTrigger, loading, counting, lost, Counter, standing, onTrigger, gated, edge}
+use Rattle.sheet.specs.Counter.{Fixed, leftOpen, fixedAt, Phase, awaitsCount, awaitsTrigger, loading, counting, lost, Counter, standing}
+use Rattle.sheet.specs.CounterGate.{onTrigger, gated, edge}
 use Rattle.agreement.specs.Gating.{underway, goesOn}
-use Rattle.agreement.specs.Ticking.{sheetChip}
+use Rattle.agreement.specs.Words.{sheetChip}
 use Rattle.agreement.specs.Watching.{Watch, unprogrammed, watching, losesLoad, fallen, lateAfter, watchGate, IsFixed, HoldsValue}
 use Rattle.agreement.proofs.CountsDown.{countsDown}
 use Rattle.agreement.proofs.Gate.{loads-agree, raises-agree, level-kept}
 use Rattle.agreement.proofs.TrackSquare.{value-there}
 use Rattle.agreement.proofs.TrackTick.{load-come}
-use Rattle.agreement.proofs.Tracking.{Core, coreOf, lastOf, view, Halved, Rules, Down, down, Rate, rate, Square, square, Paused, paused, Standing, AwaitsCount, AwaitsTrigger, WaitsIn, Loading, Counts, LostIn, PhaseAt, Holds, Tracks, not-yet, tracked}
+use Rattle.agreement.proofs.Tracking.{Core, coreOf, lastOf, view, Halved, Rules, down, rate, square, paused, Standing, AwaitsCount, WaitsIn, Loading, LostIn, PhaseAt, Holds, Tracks, not-yet, tracked}
 
 -- a record with its gate at a level, in a state, with its output at a level
 abbrev gatedCore : Bool → ChannelState → Bool → Core → Core

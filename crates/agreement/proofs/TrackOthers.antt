@@ -6,11 +6,10 @@ use mathlib.Core.Path.{_≡_, refl, sym, ap, _∙_, subst}
 use Rattle.numbers.specs.Times.{times}
 use Rattle.channel.specs.declared.Channel.{Channel}
 use Rattle.channel.specs.declared.ChannelMode.{ChannelMode}
-use Rattle.channel.specs.declared.ChannelMode.the-variants.{InterruptOnTerminalCount}
 use Rattle.channel.specs.declared.ChannelState.{ChannelState}
 use Rattle.channel.specs.declared.ChannelState.the-variants.{WaitingForReload, WaitingForGate, DeferLoadCycle, WaitingForLoadCycle, WaitingForLoadTrigger, Counting}
 use Rattle.channel.specs.declared.ControlWord.{ControlWord}
-use Rattle.channel.specs.declared.LoadState.the-variants.{WaitingForLsb, WaitingForMsb}
+use Rattle.channel.specs.declared.LoadState.the-variants.{WaitingForLsb}
 use Rattle.channel.specs.declared.LoadType.{LoadType}
 use Rattle.channel.specs.declared.LoadType.the-variants.{InitialLoad, SubsequentLoad}
 use Rattle.channel.specs.declared.PitType.{PitType}
@@ -27,14 +26,14 @@ use Rattle.mode.specs.Mode.{outputAfter, reloadOnTrigger, setMode}
 use Rattle.mode.proofs.Mask.{mask-set}
 use Rattle.sheet.specs.Gate.{fallEffect}
 use Rattle.sheet.specs.Output.{outputAfterModeSet}
-use Rattle.sheet.specs.Counter.{Fixed, leftOpen, fixedAt, Phase, awaitsCount, awaitsTrigger, loading, counting, lost, Counter, programmed}
+use Rattle.sheet.specs.Counter.{Fixed, leftOpen, fixedAt, Phase, awaitsCount, awaitsTrigger, loading, counting, lost, programmed}
 use Rattle.agreement.specs.Words.{sheetAccess}
 use Rattle.agreement.specs.Watching.{Watch, unprogrammed, watching, oneNow, gateOf, watchProgram, watchReset, strayed, watchHand, IsFixed}
 use Rattle.agreement.proofs.HeldCounts.{counts-reloading, counts-load, counts-pins, counts-state}
 use Rattle.agreement.proofs.Output.{output-agrees}
 use Rattle.agreement.proofs.TrackBytes.{low-first}
 use Rattle.agreement.proofs.TrackGate.{standing-not, waiting-not}
-use Rattle.agreement.proofs.Tracking.{Core, coreOf, firstOf, view, RuleIn, Rules, LostIn, PhaseAt, Holds, Tracks, not-yet, tracked}
+use Rattle.agreement.proofs.Tracking.{Core, coreOf, firstOf, RuleIn, LostIn, PhaseAt, Holds, Tracks, not-yet, tracked}
 
 -- the mode set
 no-first : (a : RwMode) (register : ℕ) → firstOf a WaitingForLsb register ≡ leftOpen

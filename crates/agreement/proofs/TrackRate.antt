@@ -1,29 +1,26 @@
 -- M2 in step with the sheets' counter: the tick that loads, every tick that counts, and the one that loads again, whatever count has been written by then. Assumes
 -- nothing.
-use Prim.Native.Nat.{ℕ, suc, _-_, _%_, _<_, _≤_}
-use mathlib.Core.Bool.{Bool, true, false, _||_}
+use Prim.Native.Nat.{ℕ, suc, _-_, _<_, _≤_}
+use mathlib.Core.Bool.{Bool, true, false}
 use mathlib.Core.Path.{_≡_, refl, sym, ap, _∙_}
 use native.Mathlib.Nat.{zero-mod, sub-zero, mod-eq-of-lt}
 use native.Mathlib.Omega.{arith}
 use Rattle.numbers.specs.Radix.{radixCounts}
 use Rattle.channel.specs.declared.Channel.{Channel}
-use Rattle.channel.specs.declared.ChannelMode.{ChannelMode}
 use Rattle.channel.specs.declared.ChannelMode.the-variants.{RateGenerator}
 use Rattle.channel.specs.declared.LoadType.the-variants.{SubsequentLoad}
 use Rattle.channel.specs.declared.PitType.{PitType}
-use Rattle.channel.specs.Modes.{modeNumber}
 use Rattle.channel.specs.Queries.{doesRetrigger}
 use Rattle.tick.specs.declared.due.Kind.the-variants.{Load}
-use Rattle.tick.specs.Due.{triggered, runs, due}
+use Rattle.tick.specs.Due.{runs, due}
 use Rattle.tick.specs.Kept.{TickKeeps}
 use Rattle.tick.specs.Tick.{tick}
 use Rattle.tick.proofs.Keeps as kept
 use Rattle.sheet.specs.Ticking.{held, rateValue}
 use Rattle.agreement.specs.Gating.{underway}
-use Rattle.agreement.specs.Ticking.{sheetChip}
 use Rattle.agreement.proofs.Rate as by-rate
 use Rattle.agreement.proofs.TickLoads.{tick-loads}
-use Rattle.agreement.proofs.Tracking.{Core, coreOf, Rate, rate, Paused, paused, Standing, Counts, Arrived}
+use Rattle.agreement.proofs.Tracking.{coreOf, Rate, rate, paused, Standing, Arrived}
 
 module _ (model : PitType) (c : Channel) (mode : c .control .mode ≡ RateGenerator) (complete : c .load .«load_type» ≡ SubsequentLoad) where
   keeps : TickKeeps c (tick model c)

@@ -13,19 +13,17 @@ use Rattle.channel.specs.Shared.{changeChannelState, changeOutputState}
 use Rattle.channel.proofs.Modes.{every-mode}
 use Rattle.tick.specs.declared.due.Kind.{Kind}
 use Rattle.tick.specs.declared.due.Kind.the-variants.{Idle, Deferred, Load, Reload, Count}
-use Rattle.tick.specs.Due.{triggered, runs, dueIn, due}
+use Rattle.tick.specs.Due.{triggered, runs, due}
 use Rattle.tick.specs.Level.{restLevel}
 use Rattle.tick.specs.Tick.{agedBy, idle, deferred, tick}
-use Rattle.sheet.specs.Gate.{fallEffect}
-use Rattle.sheet.specs.Counter.{Fixed, leftOpen, fixedAt, Phase, awaitsCount, awaitsTrigger, loading, counting, lost, rested}
-use Rattle.sheet.specs.Ticking.{highFrom}
+use Rattle.sheet.specs.Counter.{Fixed, Phase, loading}
+use Rattle.sheet.specs.CounterTick.{rested}
 use Rattle.agreement.specs.Gating.{underway, goesOn}
 use Rattle.agreement.specs.Watching.{watching, IsFixed}
-use Rattle.agreement.proofs.CountsDown.{countsDown, every-down}
+use Rattle.agreement.proofs.CountsDown.{countsDown, every-down, endsHigh}
 use Rattle.agreement.proofs.GateStops.{idle-in}
-use Rattle.agreement.proofs.HighAtZero.{endsHigh}
 use Rattle.agreement.proofs.Idling.{tick-idle}
-use Rattle.agreement.proofs.Tracking.{Core, coreOf, view, Rules, Down, down, Rate, rate, Square, square, Paused, paused, Standing, AwaitsCount, AwaitsTrigger, Loading, Counts, PhaseAt, Holds, Tracks, tracked}
+use Rattle.agreement.proofs.Tracking.{Core, coreOf, view, Rules, Down, down, Paused, paused, AwaitsCount, AwaitsTrigger, Counts, PhaseAt, Holds, Tracks, tracked}
 use Rattle.agreement.proofs.Waiting.{reload-idle}
 
 -- the record after such a tick, in a state

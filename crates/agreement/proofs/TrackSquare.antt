@@ -1,6 +1,6 @@
 -- M3, M3-8253, M3-8254 in step with the sheets' counter: the tick that loads, every tick inside a half, and the last of a half, which loads again whatever count has
 -- been written by then. Assumes nothing.
-use Prim.Native.Nat.{ℕ, suc, _+_, _-_, _%_, _<_, _≤_}
+use Prim.Native.Nat.{ℕ, suc, _-_, _<_, _≤_}
 use mathlib.Core.Bool.{Bool, true, false, not, cond}
 use mathlib.Core.Path.{_≡_, refl, sym, ap, ap₂, _∙_, subst}
 use native.Mathlib.Nat.{mod-eq-of-lt}
@@ -8,7 +8,6 @@ use native.Mathlib.Omega.{arith}
 use Rattle.numbers.specs.Radix.{radixCounts}
 use Rattle.channel.specs.declared.Channel.{Channel}
 use Rattle.channel.specs.declared.ChannelMode.the-variants.{SquareWaveGenerator}
-use Rattle.channel.specs.declared.ChannelState.the-variants.{Counting}
 use Rattle.channel.specs.declared.LoadType.the-variants.{SubsequentLoad}
 use Rattle.channel.specs.declared.PitType.{PitType}
 use Rattle.channel.specs.declared.ReloadFlag.the-variants.{Normal}
@@ -20,16 +19,16 @@ use Rattle.tick.specs.Kept.{TickKeeps}
 use Rattle.tick.specs.Level.{loadLevel}
 use Rattle.tick.specs.Tick.{loadAt, tick}
 use Rattle.tick.proofs.Keeps as kept
-use Rattle.sheet.specs.Ticking.{held, highTicks, squareHigh, sinceChange, squareValue}
+use Rattle.sheet.specs.Ticking.{held, highTicks, squareValue}
 use Rattle.agreement.specs.Gating.{underway}
-use Rattle.agreement.specs.Ticking.{sheetChip}
+use Rattle.agreement.specs.Words.{sheetChip}
 use Rattle.agreement.proofs.Square as wave
 use Rattle.agreement.proofs.SquareHeld.{held-not-one}
-use Rattle.agreement.proofs.SquarePlace.{halfTicks, place, Stands, high-there, since-there, stands-first, stands-on}
+use Rattle.agreement.proofs.SquarePlace.{halfTicks, Stands, high-there, since-there, stands-first, stands-on}
 use Rattle.agreement.proofs.SquareSet.{Set, At, value-loaded, load-at}
 use Rattle.agreement.proofs.SquareValue.{halfValue, loadedCount, waitsAtZero, begins}
 use Rattle.agreement.proofs.TickLoads.{LoadedAt, tick-loads}
-use Rattle.agreement.proofs.Tracking.{Core, coreOf, Square, square, Paused, paused, Standing, Counts, Arrived}
+use Rattle.agreement.proofs.Tracking.{coreOf, Square, square, paused, Arrived}
 use borrow.Author.Tests.{ne-eqb}
 
 -- where a half of n begins

@@ -1,12 +1,11 @@
 -- Every tick keeps the channel in step with the sheets' counter. Assumes nothing.
 use Prim.Native.Nat.{ℕ, suc, _+_, _<_, _≤_}
-use mathlib.Core.Bool.{Bool, true, false, true≢false, false≢true, not, cond, _&&_, _||_}
+use mathlib.Core.Bool.{Bool, true, false, false≢true, not, cond, _||_}
 use mathlib.Core.Path.{_≡_, refl, sym, ap, _∙_, subst}
 use native.Mathlib.Nat.{mod-eq-of-lt}
 use native.Mathlib.Omega.{arith}
 use lib.Dec.{eqb, ltb}
 use borrow.Author.Tests.{eq-eqb, ne-eqb, eqb-true, eqb-false, ltb-true, ltb-false}
-use Rattle.numbers.specs.Radix.{radixCounts}
 use Rattle.channel.specs.declared.Channel.{Channel}
 use Rattle.channel.specs.declared.ChannelMode.{ChannelMode}
 use Rattle.channel.specs.declared.ChannelMode.the-variants.{InterruptOnTerminalCount, HardwareRetriggerableOneShot, RateGenerator, SquareWaveGenerator, SoftwareTriggeredStrobe, HardwareTriggeredStrobe}
@@ -26,22 +25,22 @@ use Rattle.tick.specs.Level.{restLevel}
 use Rattle.tick.specs.Tick.{tick}
 use Rattle.tick.proofs.Keeps as kept
 use Rattle.sheet.specs.Gate.{fallEffect}
-use Rattle.sheet.specs.Ticking.{held, highTicks, valueAfter, outputAfter, smallest}
-use Rattle.sheet.specs.Counter.{Fixed, leftOpen, fixedAt, Phase, awaitsCount, awaitsTrigger, loading, counting, lost, Counter, standing, numberWritten, numberOf, legal, toLoad, at, nowhere, loadHalf, load, beginsLow, reloads, countTo, rest}
-use Rattle.agreement.specs.Gating.{goesOn}
-use Rattle.agreement.specs.Ticking.{sheetChip}
-use Rattle.agreement.specs.Watching.{Watch, unprogrammed, watching, watchTick, IsFixed, HoldsValue}
+use Rattle.sheet.specs.Ticking.{highTicks, valueAfter, outputAfter, smallest}
+use Rattle.sheet.specs.Counter.{Fixed, leftOpen, fixedAt, Phase, awaitsCount, awaitsTrigger, loading, counting, lost, Counter}
+use Rattle.sheet.specs.CounterTick.{numberWritten, numberOf, toLoad, at, loadHalf, load, beginsLow, reloads, countTo, rest}
+use Rattle.agreement.specs.Words.{sheetChip}
+use Rattle.agreement.specs.Watching.{Watch, watching, watchTick, IsFixed, HoldsValue}
 use Rattle.agreement.proofs.CountsDown.{countsDown, every-down}
 use Rattle.agreement.proofs.Idling.{state-stands, output-rests}
 use Rattle.agreement.proofs.SquarePlace.{halfTicks, Stands}
 use Rattle.agreement.proofs.TickWaits.{still-come}
 use Rattle.agreement.proofs.TrackDown.{loads-down, counts-down}
 use Rattle.agreement.proofs.TrackRate.{loads-rate, counts-rate, reloads-rate, begins-rate}
-use Rattle.agreement.proofs.TrackRest.{restedIn, rests, put-off, count-rests, trigger-rests, down-counts-rest, paused-counts-rest, trigger-idle, deferred-due, held-idle, goes-idle}
+use Rattle.agreement.proofs.TrackRest.{rests, put-off, count-rests, trigger-rests, down-counts-rest, paused-counts-rest, trigger-idle, deferred-due, held-idle, goes-idle}
 use Rattle.agreement.proofs.TrackSquare.{beginOf, loads-square, counts-square, reloads-square}
-use Rattle.agreement.proofs.Tracking.{Core, coreOf, firstOf, lastOf, view, Rules, Down, down, Rate, rate, Square, square, Paused, paused, Standing, Arrived, LoadDue, Loading, Counts, LostIn, PhaseAt, Holds, Tracks, not-yet, tracked}
+use Rattle.agreement.proofs.Tracking.{coreOf, lastOf, view, Rules, Down, down, Rate, rate, Square, square, paused, Standing, Arrived, LoadDue, Loading, Counts, LostIn, PhaseAt, Holds, Tracks, not-yet, tracked}
 use Rattle.agreement.proofs.Waiting.{reload-idle}
-use Rattle.agreement.proofs.Written.{Writes, number-writes, legal-number, open-not}
+use Rattle.agreement.proofs.Written.{Writes, number-writes, legal-number}
 
 -- what is said of the sheets' counter by mode is said of the record's
 counts-runs : (gate : Bool) (m : ChannelMode) → (not (fallEffect (modeNumber m) .stops) || gate) ≡ (triggered m || gate)
@@ -113,9 +112,10 @@ module _ (model : PitType) (c : Channel) (one : Fixed Bool) (rules : Rules model
         half =
             rw (keeps .control-kept, keeps .load-state-kept)
             (λ both zero waits.
-            let is = rules .half both zero waits in
-            (state-stands model c (reload-idle c (is .0)) 1 ∙ is .0,
-            output-rests model c (reload-idle c (is .0)) 0 ∙ ap (λ (m : ChannelMode). restLevel m (c .pins .output)) zero ∙ is .1));
+            let is = rules .half both zero waits in (
+              state-stands model c (reload-idle c (is .0)) 1 ∙ is .0,
+              output-rests model c (reload-idle c (is .0)) 0 ∙ ap (λ (m : ChannelMode). restLevel m (c .pins .output)) zero ∙ is .1,
+            ));
       }
 
   view-then : (p : Phase) (o : Fixed Bool) (v : Fixed ℕ) → view (coreOf (tick model c)) p o v ≡ view (coreOf c) p o v

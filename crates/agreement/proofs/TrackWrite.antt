@@ -1,42 +1,38 @@
 -- W1, M0 to M5 in step with the sheets' counter: every byte written. Assumes nothing.
-use Prim.Native.Nat.{ℕ, _+_, _*_, _%_, _<_}
+use Prim.Native.Nat.{ℕ, _%_, _<_}
 use mathlib.Core.Bool.{Bool, true, false, true≢false, false≢true, not, cond, _&&_, _||_}
 use mathlib.Core.Logic.{_⊎_, inl, inr, ⊎-elim}
 use mathlib.Core.Path.{_≡_, refl, sym, ap, _∙_, subst}
-use native.Mathlib.Nat.{mod-eq-of-lt}
-use native.Mathlib.Omega.{arith}
 use lib.Dec.{eqb}
 use borrow.Author.Tests.{eqb-true, not-false}
 use Rattle.channel.specs.declared.Channel.{Channel}
 use Rattle.channel.specs.declared.ChannelMode.{ChannelMode}
 use Rattle.channel.specs.declared.ChannelMode.the-variants.{InterruptOnTerminalCount, HardwareRetriggerableOneShot, RateGenerator, SquareWaveGenerator, SoftwareTriggeredStrobe, HardwareTriggeredStrobe}
 use Rattle.channel.specs.declared.ChannelState.{ChannelState}
-use Rattle.channel.specs.declared.ChannelState.the-variants.{WaitingForReload, DeferLoadCycle, WaitingForLoadCycle, WaitingForLoadTrigger}
+use Rattle.channel.specs.declared.ChannelState.the-variants.{WaitingForReload}
 use Rattle.channel.specs.declared.LoadState.{LoadState}
 use Rattle.channel.specs.declared.LoadState.the-variants.{WaitingForLsb, WaitingForMsb}
 use Rattle.channel.specs.declared.LoadType.{LoadType}
 use Rattle.channel.specs.declared.LoadType.the-variants.{InitialLoad, SubsequentLoad}
 use Rattle.channel.specs.declared.PitType.{PitType}
 use Rattle.channel.specs.declared.PitType.the-variants.{Model8253, Model8254}
-use Rattle.channel.specs.declared.RwMode.{RwMode}
-use Rattle.channel.specs.declared.RwMode.the-variants.{Lsb, Msb, LsbMsb}
+use Rattle.channel.specs.declared.RwMode.the-variants.{LsbMsb}
 use Rattle.channel.specs.Modes.{modeNumber}
 use Rattle.channel.specs.Shared.{waitsForReload, changeChannelState, changeOutputState}
 use Rattle.channel.proofs.Modes.{every-mode}
 use Rattle.load.specs.Finalize.{waitingState, firstState, loadsAgain, armedBy, completeLoad, finalizeLoad}
 use Rattle.load.specs.Write.{putRegister, stopsOnLowByte, writeByte}
 use Rattle.tick.specs.Due.{triggered}
-use Rattle.sheet.specs.ControlByte.{Access, lowByte, highByte, lowThenHigh}
 use Rattle.sheet.specs.Gate.{fallEffect}
-use Rattle.sheet.specs.Loading.{firstByteStops}
 use Rattle.sheet.specs.Ticking.{Chip, chip8253, chip8254, squareHigh}
-use Rattle.sheet.specs.Counter.{Fixed, leftOpen, fixedAt, Phase, awaitsCount, awaitsTrigger, loading, counting, lost, Counter, standing, onCount, outputOnCount, lowered, outputOnFirst, complete, begin}
-use Rattle.agreement.specs.Ticking.{sheetChip}
-use Rattle.agreement.specs.Watching.{Watch, unprogrammed, watching, isFirst, orElse, strays, disturbs, makesDue, putsOff, watchWrite, IsFixed, HoldsValue}
+use Rattle.sheet.specs.Counter.{Fixed, leftOpen, fixedAt, Phase, awaitsCount, awaitsTrigger, loading, counting, lost}
+use Rattle.sheet.specs.CounterWrite.{onCount, lowered, outputOnFirst, complete}
+use Rattle.agreement.specs.Words.{sheetChip}
+use Rattle.agreement.specs.Watching.{watching, isFirst, orElse, strays, disturbs, makesDue, putsOff, IsFixed, HoldsValue}
 use Rattle.agreement.proofs.SquarePlace.{high-there}
 use Rattle.agreement.proofs.SquareValue.{waitsAtZero}
 use Rattle.agreement.proofs.TrackGate.{standing-not}
-use Rattle.agreement.proofs.Tracking.{Core, coreOf, lastOf, view, Halved, RuleIn, Rules, Down, down, Rate, rate, Square, square, Paused, paused, Standing, AwaitsCount, AwaitsTrigger, LoadDue, WaitsIn, Loading, Counts, LostIn, PhaseAt, Holds, Tracks, not-yet, tracked}
+use Rattle.agreement.proofs.Tracking.{Core, coreOf, view, RuleIn, Rules, down, rate, Square, square, paused, Standing, WaitsIn, Loading, Counts, LostIn, PhaseAt, Holds, Tracks, tracked}
 
 -- a record with a whole count w written to it, in a state
 abbrev pub done : ℕ → LoadState → ChannelState → Core → Core

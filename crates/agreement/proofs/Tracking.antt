@@ -1,7 +1,7 @@
 -- When the sheets' counter and a channel's record stand at one place: the relation that every call keeps. Assumes nothing.
 use Prim.Native.Nat.{ℕ, _%_, _<_, _≤_}
 use mathlib.Core.Bool.{Bool, true, false}
-use mathlib.Core.Path.{_≡_, refl, ap}
+use mathlib.Core.Path.{_≡_}
 use lib.Dec.{ltb}
 use Rattle.numbers.specs.Radix.{radixCounts}
 use Rattle.channel.specs.declared.Channel.{Channel}
@@ -30,12 +30,10 @@ use Rattle.sheet.specs.Gate.{fallEffect}
 use Rattle.sheet.specs.Ticking.{held, downValue, rateValue, rateHigh, highFrom, valueAfter, outputAfter, smallest}
 use Rattle.sheet.specs.Counter.{Fixed, leftOpen, fixedAt, Phase, awaitsCount, awaitsTrigger, loading, counting, lost, Counter}
 use Rattle.agreement.specs.Words.{sheetAccess}
-use Rattle.agreement.specs.Ticking.{sheetChip}
+use Rattle.agreement.specs.Words.{sheetChip}
 use Rattle.agreement.specs.Gating.{underway, goesOn}
 use Rattle.agreement.specs.Watching.{Watch, unprogrammed, watching, IsFixed, HoldsValue}
-use Rattle.agreement.proofs.CountsDown.{countsDown}
-use Rattle.agreement.proofs.HighAtZero.{endsHigh}
-use Rattle.agreement.proofs.Strobe.{isStrobe}
+use Rattle.agreement.proofs.CountsDown.{countsDown, endsHigh, isStrobe}
 use Rattle.agreement.proofs.SquarePlace.{Stands}
 use Rattle.agreement.proofs.SquareValue.{halfValue, waitsAtZero}
 use Rattle.agreement.proofs.Square.{flagOf}

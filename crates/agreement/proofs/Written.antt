@@ -1,5 +1,5 @@
 -- N1 to N3: the count that 16 bits write, as the counter holds it. Assumes nothing.
-use Prim.Native.Nat.{ℕ, zero, suc, _%_, _<_, _≤_}
+use Prim.Native.Nat.{ℕ, _<_, _≤_}
 use mathlib.Core.Bool.{Bool, true, false, true≢false, cond, _&&_}
 use mathlib.Core.Path.{_≡_, refl, sym, ap, _∙_, subst}
 use native.Mathlib.Nat.{mod-eq-of-lt}
@@ -10,7 +10,8 @@ use Rattle.numbers.specs.Digits.{GoodDigits, ones, tens, hundreds, thousands, w
 use Rattle.numbers.specs.Radix.{radixCounts}
 use Rattle.numbers.proofs.Digits.{packed-weight, weight-below}
 use Rattle.sheet.specs.Ticking.{held, smallest}
-use Rattle.sheet.specs.Counter.{Fixed, leftOpen, fixedAt, decimalDigits, orLargest, numberWritten, legal}
+use Rattle.sheet.specs.Counter.{Fixed, leftOpen, fixedAt}
+use Rattle.sheet.specs.CounterTick.{decimalDigits, orLargest, numberWritten, legal}
 
 -- the bits hold n, which is a count of the radix
 pub record Writes (bcd : Bool) (w n : ℕ) : Type 0 where

@@ -1,6 +1,6 @@
 -- Demand 2 for the gate and the ticks: the table G0 to G5 of docs/SHEETS.md, and the tick of the record.
 use Prim.Native.Nat.{ℕ, suc}
-use mathlib.Core.Bool.{Bool, true, false, not, cond}
+use mathlib.Core.Bool.{Bool, true, false, not}
 use mathlib.Core.Path.{_≡_}
 use Rattle.numbers.specs.Times.{times}
 use Rattle.channel.specs.declared.Channel.{Channel}
@@ -15,8 +15,8 @@ use Rattle.channel.specs.Shared.{waitsForReload}
 use Rattle.count.specs.Count.{count}
 use Rattle.gate.specs.Gate.{withGate, setGate}
 use Rattle.load.specs.Cycle.{loadValue}
-use Rattle.tick.specs.declared.due.Kind.the-variants.{Load, Reload, Count}
-use Rattle.tick.specs.Due.{reloadsFrom, due}
+use Rattle.tick.specs.declared.due.Kind.the-variants.{Load}
+use Rattle.tick.specs.Due.{due}
 use Rattle.tick.specs.Taken.{taken}
 use Rattle.tick.specs.Tick.{neverLoaded, tick}
 use Rattle.sheet.specs.Gate.{Effect, fallEffect, riseEffect, highCounts}
@@ -82,9 +82,7 @@ pub record GateAgrees (model : PitType) (c : Channel) : Type 0 where
   pub rising-nothing : rise c .loads ≡ false → setGate c true ≡ withGate c true
   pub risen-counts : rise c .loads ≡ false → goesOn (c .counter .«channel_state») ≡ true
       → tick model (setGate c true) .counter .«counting_element» ≡ count c .counter .«counting_element»
-  -- G0, G2, G3, G4, high: counting; G1, G5: nothing
-  pub high-counts : high c ≡ true → c .pins .gate ≡ true → goesOn (c .counter .«channel_state») ≡ true
-      → due c ≡ cond (reloadsFrom (c .control .mode) (c .counter .«counting_element»)) Reload Count
+  -- G1, G5, high: nothing
   pub high-nothing : high c ≡ false → tick model (withGate c true) ≡ withGate (tick model c) true
 
 -- the table holds of every channel on either model, but of one that waits for a reload: there an edge is ignored (docs/DIFFERENCES.md, B2)

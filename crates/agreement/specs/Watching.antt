@@ -8,7 +8,10 @@ use Rattle.channel.specs.declared.Channel.{Channel}
 use Rattle.sheet.specs.ControlByte.{Access, lowByte, highByte, lowThenHigh}
 use Rattle.sheet.specs.Gate.{fallEffect, riseEffect}
 use Rattle.sheet.specs.Ticking.{Chip, chip8253, chip8254, held, squareHigh}
-use Rattle.sheet.specs.Counter.{Fixed, leftOpen, fixedAt, Phase, awaitsCount, awaitsTrigger, loading, counting, lost, Counter, standing, programmed, lowered, rest, nowhere, tick, write, gateTo}
+use Rattle.sheet.specs.Counter.{Fixed, leftOpen, fixedAt, Phase, awaitsCount, awaitsTrigger, loading, counting, lost, Counter, standing, programmed}
+use Rattle.sheet.specs.CounterTick.{rest, nowhere, tick}
+use Rattle.sheet.specs.CounterWrite.{lowered, write}
+use Rattle.sheet.specs.CounterGate.{gateTo}
 
 -- What is known of a channel: nothing but its gate before the mode set (C5); from there on the sheets' counter, and whether the load that is due comes one tick
 -- late (S1). Beside it the last mode set of modes 0 to 3: whether that was mode 1, which modes 4 and 5 go by here (B3, B4)

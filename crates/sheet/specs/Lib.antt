@@ -6,3 +6,6 @@ pub mod Output
 pub mod Gate
 pub mod Ticking
 pub mod Counter
+pub mod CounterTick
+pub mod CounterWrite
+pub mod CounterGate

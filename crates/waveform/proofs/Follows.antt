@@ -1,11 +1,11 @@
 -- The board follows the sheets' counter over every list of calls. Assumes nothing.
 use Prim.Native.Nat.{ℕ, zero, suc, _<_}
-use mathlib.Core.Bool.{Bool, true, false}
+use mathlib.Core.Bool.{true, false}
 use mathlib.Core.List.{List, [], _∷_}
-use mathlib.Core.Path.{_≡_, refl, sym, ap, _∙_, subst}
+use mathlib.Core.Path.{_≡_, refl, sym, subst}
 use native.Mathlib.Omega.{arith}
 use lib.ListN.{length}
-use Rattle.refusal.specs.Reply.{Reply, refused, accepted}
+use Rattle.refusal.specs.Reply.{Reply}
 use Rattle.channel.specs.declared.Channel.{Channel}
 use Rattle.channel.specs.declared.PitType.{PitType}
 use Rattle.channel.specs.Fresh as channel
@@ -20,7 +20,7 @@ use Rattle.step.proofs.Kept.{settings-kept}
 use Rattle.step.proofs.Leaves.{refused-leaves}
 use Rattle.step.proofs.Three.{fresh-three, step-three}
 use Rattle.sheet.specs.Counter.{leftOpen, fixedAt}
-use Rattle.agreement.specs.Watching.{Watch, unprogrammed, watching, ShowsIn}
+use Rattle.agreement.specs.Watching.{Watch, unprogrammed, ShowsIn}
 use Rattle.agreement.proofs.Tracking.{coreOf, Tracks, not-yet, tracked}
 use Rattle.waveform.specs.Heard.{unlessRefused, heard, hears, watchOver, IsByte, AllBytes}
 use Rattle.waveform.specs.Follows.{Follows, FollowsFresh}

@@ -1,9 +1,9 @@
 -- The sheets' counter after a mode set, the bytes of a count and, where the mode wants one, a trigger: the next tick loads that count, or the one after it where the
 -- board defers. Assumes nothing.
-use Prim.Native.Nat.{ℕ, zero, suc, _+_, _<_, _≤_}
-use mathlib.Core.Bool.{Bool, true, false, true≢false, false≢true, not, cond, _&&_, _||_}
+use Prim.Native.Nat.{ℕ, zero, suc, _+_, _≤_}
+use mathlib.Core.Bool.{Bool, true, false, false≢true, not, cond, _&&_, _||_}
 use mathlib.Core.List.{List, [], _∷_}
-use mathlib.Core.Path.{_≡_, refl, sym, ap, _∙_, subst}
+use mathlib.Core.Path.{_≡_, refl, ap, _∙_}
 use native.Mathlib.Nat.{zero-add, suc-add}
 use lib.Dec.{eqb}
 use Rattle.numbers.specs.Times.{times}
@@ -16,10 +16,13 @@ use Rattle.sheet.specs.ControlByte.{Access, lowByte, highByte, lowThenHigh}
 use Rattle.sheet.specs.Gate.{fallEffect, riseEffect}
 use Rattle.sheet.specs.Loading.{countOf, firstByteStops}
 use Rattle.sheet.specs.Ticking.{Chip, smallest}
-use Rattle.sheet.specs.Counter.{Fixed, leftOpen, fixedAt, Phase, awaitsCount, awaitsTrigger, loading, counting, lost, Counter, standing, programmed, numberWritten, legal, toLoad, at, loadHalf, counts, rested, rest, tick, edge, onCount, outputOnCount, lowered, outputOnFirst, write}
+use Rattle.sheet.specs.Counter.{Fixed, leftOpen, fixedAt, Phase, awaitsCount, awaitsTrigger, loading, counting, lost, Counter, programmed}
+use Rattle.sheet.specs.CounterTick.{numberWritten, legal, at, loadHalf, rested, tick}
+use Rattle.sheet.specs.CounterWrite.{onCount, outputOnCount, lowered, outputOnFirst}
+use Rattle.sheet.specs.CounterGate.{edge}
 use Rattle.agreement.specs.Watching.{Watch, unprogrammed, watching, oneNow, gateOf, watchProgram, tickLate, watchTick, fallen, watchGate, staysHigh, strays, disturbs, makesDue, putsOff, watchWrite}
 use Rattle.agreement.proofs.TrackWrite.{first-undisturbed}
-use Rattle.waveform.specs.Pin.{bytesIn, writtenIn, triggered, afterOne, laterTicks}
+use Rattle.waveform.specs.Pin.{bytesIn, writtenIn, triggered, afterOne}
 use Rattle.waveform.proofs.Running.{placeOf, ticked}
 
 -- what is heard of the bytes and of the trigger
@@ -159,9 +162,10 @@ module _ (chip : Chip) (defer : Bool) (m : ChannelMode) (bcd : Bool) (one : Fixe
       → (o' : Fixed Bool)
       × (triggerHeard t (watching (counter access leftOpen (fixedAt w) true (cond t awaitsTrigger loading) o leftOpen) late one)
       ≡ watching (counter access leftOpen (fixedAt w) true loading o' leftOpen) (not t && late) one)
-  triggered-by true is access w o =
-      (cond (fallEffect mode .raises) (fixedAt true) o,
-      pulled access w o ∙ rw (trigger-loads m is) refl)
+  triggered-by true is access w o = (
+    cond (fallEffect mode .raises) (fixedAt true) o,
+    pulled access w o ∙ rw (trigger-loads m is) refl,
+  )
   triggered-by false is access w o = (o, refl)
 
   -- all of it
@@ -172,11 +176,12 @@ module _ (chip : Chip) (defer : Bool) (m : ChannelMode) (bcd : Bool) (one : Fixe
       ≡ watching (counter access leftOpen (fixedAt (writtenIn access low high)) true loading o' leftOpen) lateThen one)
   opened access low high o =
       let w = writtenIn access low high in
-      let t = triggered-by (triggered mode) refl access w (outputThen access o) in
-      (t .0,
-      ap (triggerHeard (triggered mode)) (bytes-written access low high o)
-      ∙ ap (λ (p : Phase). triggerHeard (triggered mode) (watching (counter access leftOpen (fixedAt w) true p (outputThen access o) leftOpen) late one)) (on-first m)
-      ∙ t .1)
+      let t = triggered-by (triggered mode) refl access w (outputThen access o) in (
+        t .0,
+        ap (triggerHeard (triggered mode)) (bytes-written access low high o)
+            ∙ ap (λ (p : Phase). triggerHeard (triggered mode) (watching (counter access leftOpen (fixedAt w) true p (outputThen access o) leftOpen) late one)) (on-first m)
+            ∙ t .1,
+      )
 
   -- the ticks after it: the load with the first, or with the second, and j more
   module _ (access : Access) (w n : ℕ) (o : Fixed Bool) (number : legal mode (numberWritten bcd w) ≡ fixedAt n) (least : smallest mode ≤ n) where

@@ -1,5 +1,5 @@
 -- From the port to the pin: what a channel shows j ticks after the load of a count that was written to it. Assumes nothing.
-use Prim.Native.Nat.{ℕ, zero, suc, _+_, _<_, _≤_}
+use Prim.Native.Nat.{ℕ, suc, _+_, _<_, _≤_}
 use mathlib.Core.Bool.{Bool, true, false, not, cond, _&&_}
 use mathlib.Core.List.{List, [], _∷_, _++_}
 use mathlib.Core.Path.{_≡_, refl, sym, ap, _∙_, subst}
@@ -9,7 +9,6 @@ use lib.ListN.{length}
 use borrow.Author.Tests.{eq-eqb, ne-eqb}
 use Rattle.numbers.specs.Times.{times}
 use Rattle.refusal.specs.Reply.{Reply}
-use Rattle.channel.specs.declared.Channel.{Channel}
 use Rattle.channel.specs.declared.ChannelMode.{ChannelMode}
 use Rattle.channel.specs.declared.PitType.{PitType}
 use Rattle.channel.specs.Modes.{modeNumber}
@@ -18,7 +17,7 @@ use Rattle.channel.proofs.Modes.{every-mode}
 use Rattle.board.specs.declared.Board.{Board}
 use Rattle.board.specs.Board.{channelAt}
 use Rattle.board.specs.Outcome.{Value}
-use Rattle.step.specs.Operation.{Operation, WritePort, SetChannelGate}
+use Rattle.step.specs.Operation.{Operation, WritePort}
 use Rattle.step.specs.Accepted.{IsAccepted, AllAccepted}
 use Rattle.step.specs.Owed.{allMade}
 use Rattle.step.specs.Step.{step, steps}
@@ -26,10 +25,11 @@ use Rattle.step.specs.Time.{isTimeCall}
 use Rattle.step.proofs.Kept.{time-kept, settings-kept}
 use Rattle.sheet.specs.ControlByte.{Access, lowByte, highByte, lowThenHigh, Request, program, requestOf}
 use Rattle.sheet.specs.Output.{outputAfterModeSet}
-use Rattle.sheet.specs.Ticking.{Chip, held, valueAfter, outputAfter, smallest}
-use Rattle.sheet.specs.Counter.{Fixed, leftOpen, fixedAt, awaitsCount, loading, Counter, programmed, numberWritten, legal, at}
-use Rattle.agreement.specs.Ticking.{sheetChip}
-use Rattle.agreement.specs.Watching.{Watch, unprogrammed, watching, oneNow, gateOf, watchProgram, watchTick, watchGate, watchWrite, strays, putsOff, ShowsIn}
+use Rattle.sheet.specs.Ticking.{Chip, held, valueAfter, smallest}
+use Rattle.sheet.specs.Counter.{Fixed, leftOpen, fixedAt, awaitsCount, loading, Counter, programmed}
+use Rattle.sheet.specs.CounterTick.{numberWritten, legal, at}
+use Rattle.agreement.specs.Words.{sheetChip}
+use Rattle.agreement.specs.Watching.{Watch, unprogrammed, watching, oneNow, watchProgram, watchTick, watchGate, watchWrite, strays, putsOff, ShowsIn}
 use Rattle.agreement.proofs.Written.{legal-number}
 use Rattle.waveform.specs.Heard.{heardControl, heard, unlessRefused, hears, watchOver, AllBytes}
 use Rattle.waveform.specs.Pin.{bytesIn, writtenIn, triggered, gateCall, byteCalls, triggerCalls, opening, AllOnlyTicks, afterOne, laterTicks, AtThePin, PortToPin}
@@ -90,12 +90,13 @@ module _ (i : ℕ) (on : i < 3) (events : List ℕ) (place : ℕ) where
   over-bytes b (byte ∷ bytes) w took =
       let call = WritePort (0x40 + i) byte events place in
       let k = kept-by b call refl in
-      let rest = over-bytes (step b call .board) bytes (hears i b call w) (took .1) in
-      (rest .0
-      ∙ ap (λ (model : PitType). bytesHeard (sheetChip model) (step b call .board .defer) bytes (hears i b call w)) (k .model-is)
-      ∙ ap (λ (defer : Bool). bytesHeard (sheetChip (b .model)) defer bytes (hears i b call w)) (k .defer-is)
-      ∙ ap (bytesHeard (sheetChip (b .model)) (b .defer) bytes) (byte-heard b byte w (took .0)),
-      record { model-is = rest .1 .model-is ∙ k .model-is; defer-is = rest .1 .defer-is ∙ k .defer-is })
+      let rest = over-bytes (step b call .board) bytes (hears i b call w) (took .1) in (
+        rest .0
+            ∙ ap (λ (model : PitType). bytesHeard (sheetChip model) (step b call .board .defer) bytes (hears i b call w)) (k .model-is)
+            ∙ ap (λ (defer : Bool). bytesHeard (sheetChip (b .model)) defer bytes (hears i b call w)) (k .defer-is)
+            ∙ ap (bytesHeard (sheetChip (b .model)) (b .defer) bytes) (byte-heard b byte w (took .0)),
+        record { model-is = rest .1 .model-is ∙ k .model-is; defer-is = rest .1 .defer-is ∙ k .defer-is },
+      )
 
   over-trigger : (b : Board) (t : Bool) (w : Watch) → AllAccepted b (triggerCalls i events place t) → watchOver i b (triggerCalls i events place t) w ≡ triggerHeard t w
   over-trigger b true w took =
@@ -185,18 +186,24 @@ module _ (b : Board) (three : length (b .channels) ≡ 3) (i : ℕ) (on : i < 3)
   opens : strays (now .defer) (modeNumber m) awaitsCount one ≡ false → AllAccepted now calls
       → (o : Fixed Bool) × (watchOver i now calls before ≡ watching (waits o) (not (triggered (modeNumber m)) && putsOff (now .defer) (modeNumber m) awaitsCount one) one)
   opens fine took =
-      let o = opened chip (now .defer) m bcd one fine access low high (fixedAt (outputAfterModeSet (modeNumber m))) in
-      (o .0,
-      over-opening i on events place now control access (modeNumber m) bcd low high before is took
-      ∙ ap (λ (w : Watch). triggerHeard (triggered (modeNumber m)) (bytesHeard chip (now .defer) (bytesIn access low high) w)) (set-high before access (modeNumber m) bcd)
-      ∙ o .1)
+      let o = opened chip (now .defer) m bcd one fine access low high (fixedAt (outputAfterModeSet (modeNumber m))) in (
+        o .0,
+        over-opening i on events place now control access (modeNumber m) bcd low high before is took
+            ∙ ap (λ (w : Watch). triggerHeard (triggered (modeNumber m)) (bytesHeard chip (now .defer) (bytesIn access low high) w)) (set-high before access (modeNumber m) bcd)
+            ∙ o .1,
+      )
 
   all-small : (later : List Operation) → AllBytes later → AllBytes (earlier ++ (calls ++ later))
   all-small later others =
       bytes-both earlier (calls ++ later) small
-      (bytes-both calls later
-      (tt, (byte, bytes-both (byteCalls i events place (bytesIn access low high)) (triggerCalls i events place (triggered (modeNumber m)))
-      (small-bytes i on events place access low high low-byte high-byte) (small-trigger i on events place (triggered (modeNumber m)))))
+      (bytes-both calls later (
+        tt,
+        (
+          byte,
+          bytes-both (byteCalls i events place (bytesIn access low high)) (triggerCalls i events place (triggered (modeNumber m)))
+              (small-bytes i on events place access low high low-byte high-byte) (small-trigger i on events place (triggered (modeNumber m))),
+        ),
+      )
       others)
 
   module _ (fine : strays (now .defer) (modeNumber m) awaitsCount one ≡ false) (took : AllAccepted now calls) (later : List Operation) (may : AllOnlyTicks i later)

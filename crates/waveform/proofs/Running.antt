@@ -1,21 +1,20 @@
 -- The sheets' counter itself: j ticks after the tick that loaded n, with nothing else written and the gate as the mode wants it, it stands where the closed forms of
 -- the sheets say. Assumes nothing.
 use Prim.Native.Nat.{ℕ, zero, suc, _-_, _%_, _<_, _≤_}
-use mathlib.Core.Bool.{Bool, true, false, false≢true, cond, _&&_, _||_}
-use mathlib.Core.Path.{_≡_, refl, sym, ap, _∙_, subst}
+use mathlib.Core.Bool.{Bool, true, false, cond, _||_}
+use mathlib.Core.Path.{_≡_, refl, sym, ap, _∙_}
 use native.Mathlib.Nat.{zero-mod, suc-mod, mod-lt, mod-eq-of-lt, mod-self}
 use native.Mathlib.Omega.{arith}
 use lib.Dec.{eqb}
 use borrow.Author.Tests.{eqb-true, eqb-false}
 use Rattle.numbers.specs.Times.{times}
 use Rattle.channel.specs.declared.ChannelMode.{ChannelMode}
-use Rattle.channel.specs.declared.ChannelMode.the-variants.{InterruptOnTerminalCount, HardwareRetriggerableOneShot, RateGenerator, SquareWaveGenerator, SoftwareTriggeredStrobe, HardwareTriggeredStrobe}
 use Rattle.channel.specs.Modes.{modeNumber}
 use Rattle.channel.specs.Queries.{doesRetrigger}
 use Rattle.channel.proofs.Modes.{every-mode}
 use Rattle.sheet.specs.Ticking.{Chip, highTicks, valueAfter, outputAfter, smallest}
-use Rattle.sheet.specs.Counter.{Fixed, leftOpen, fixedAt, Phase, loading, counting, Counter, standing, toLoad, at, loadHalf, load, beginsLow, reloads, countTo, rest, counts, tick}
-use Rattle.agreement.specs.Watching.{Watch, watching, watchTick}
+use Rattle.sheet.specs.Counter.{Fixed, fixedAt, Counter}
+use Rattle.sheet.specs.CounterTick.{toLoad, at, loadHalf, load, beginsLow, reloads, countTo, rest, counts, tick}
 
 -- the tick of the period that j ticks come to: modes 2 and 3 repeat
 abbrev pub placeOf : Bool → ℕ → ℕ → ℕ

@@ -1,17 +1,17 @@
 -- Calls of which a channel hears nothing but ticks, over a list: as many ticks of the sheets' counter as they make. Assumes nothing.
-use Prim.Native.Nat.{ℕ, zero, suc, _+_, _<_}
+use Prim.Native.Nat.{ℕ, _+_}
 use mathlib.Core.Bool.{Bool, true, false, true≢false, cond}
 use mathlib.Core.List.{List, [], _∷_, _++_}
-use mathlib.Core.Path.{_≡_, refl, sym, ap, _∙_, subst}
+use mathlib.Core.Path.{_≡_, refl, sym, ap, _∙_}
 use native.Mathlib.Nat.{add-comm}
 use lib.Dec.{eqb}
 use borrow.Author.Tests.{ne-eqb}
 use Rattle.numbers.specs.Times.{times}
 use Rattle.numbers.proofs.Times.{times-add}
-use Rattle.refusal.specs.Reply.{Reply, refused, accepted}
+use Rattle.refusal.specs.Reply.{Reply}
 use Rattle.channel.specs.declared.PitType.{PitType}
 use Rattle.board.specs.declared.Board.{Board}
-use Rattle.board.specs.Outcome.{Outcome, Value}
+use Rattle.board.specs.Outcome.{Value}
 use Rattle.step.specs.Operation.{Operation, WritePort, ReadPort, SetChannelGate, Counts, LoadCycle, CatchUp, Run, Reset, GetOutputState, GetChannelCount, DoesChannelRetrigger, IsDirty, GetTimerAccum, WorkOff, kindOf}
 use Rattle.step.specs.Owed.{madeBy, allMade}
 use Rattle.step.specs.Step.{step, steps}
@@ -19,7 +19,7 @@ use Rattle.step.proofs.Accepted.{by-reply}
 use Rattle.step.proofs.Every.{every-asked}
 use Rattle.step.proofs.Kept.{settings-kept}
 use Rattle.sheet.specs.ControlByte.{Request, noCounter, latchCounter, program, requestOf}
-use Rattle.agreement.specs.Ticking.{sheetChip}
+use Rattle.agreement.specs.Words.{sheetChip}
 use Rattle.agreement.specs.Watching.{Watch, watchTick}
 use Rattle.waveform.specs.Heard.{heardControl, heardByte, heard, unlessRefused, hears, watchOver, AllBytes}
 use Rattle.waveform.specs.Pin.{NoProgram, OnlyTicks, AllOnlyTicks}

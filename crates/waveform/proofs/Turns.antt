@@ -8,11 +8,10 @@ use lib.Dec.{eqb, ltb}
 use lib.ListN.{length}
 use borrow.Author.Tests.{ne-eqb, eqb-true, eqb-false, ltb-true, ltb-false}
 use Rattle.numbers.specs.Times.{times}
-use Rattle.refusal.specs.Reply.{Reply, refused, accepted}
+use Rattle.refusal.specs.Reply.{accepted}
 use Rattle.refusal.proofs.Apart.{refused-not}
 use Rattle.channel.specs.declared.Channel.{Channel}
 use Rattle.channel.specs.declared.ControlWord.{ControlWord}
-use Rattle.channel.specs.declared.PitType.{PitType}
 use Rattle.channel.specs.Fresh as channel
 use Rattle.channel.specs.Modes.{modeNumber}
 use Rattle.channel.specs.Record.{withDirty}
@@ -27,12 +26,11 @@ use Rattle.latch.specs.Reading.{readByte}
 use Rattle.load.specs.Cycle as load
 use Rattle.load.specs.Write.{writeByte}
 use Rattle.mode.specs.Mode as mode
-use Rattle.tick.specs.Tick.{tick}
 use Rattle.board.specs.declared.Board.{Board}
 use Rattle.board.specs.Board.{channelAt, withChannel}
 use Rattle.board.specs.Counting.{counts, loadCycle}
 use Rattle.board.specs.Making.{restored, reset}
-use Rattle.board.specs.Outcome.{Outcome, Value, done, refuse, accept, onChannel, unlessOwed}
+use Rattle.board.specs.Outcome.{Outcome, Value, done, refuse, accept, unlessOwed}
 use Rattle.board.specs.Queries.{isDirty}
 use Rattle.board.proofs.Channels.{put-found, put-other, not-above}
 use Rattle.ports.specs.declared.port.Port.{Port}
@@ -40,9 +38,8 @@ use Rattle.ports.specs.declared.port.Port.the-variants.{Data, Command as Comman
 use Rattle.ports.specs.Port.{portOf}
 use Rattle.ports.specs.Gates.{setChannelGate}
 use Rattle.ports.specs.Reads.{readFrom, readPort}
-use Rattle.ports.specs.Settle.{settle, untouched}
+use Rattle.ports.specs.Settle.{settle}
 use Rattle.ports.specs.Writes.{controlRegisterWrite, writeTo, writePort}
-use Rattle.ports.proofs.Below.{data-port}
 use Rattle.ports.proofs.Settling.{settle-taken}
 use Rattle.owed.specs.BoardTick.{boardTick}
 use Rattle.owed.specs.Worked.{workOff}
@@ -55,7 +52,7 @@ use Rattle.step.proofs.Made.{ticks-made}
 use Rattle.step.proofs.Owing.{by-owed}
 use Rattle.step.proofs.Touched.{write-stays, untouched-stays}
 use Rattle.sheet.specs.ControlByte.{Request, requestOf}
-use Rattle.agreement.specs.Ticking.{sheetChip}
+use Rattle.agreement.specs.Words.{sheetChip}
 use Rattle.agreement.specs.Words.{sheetAccess, sheetRequest}
 use Rattle.agreement.specs.Watching.{Watch, watchProgram, watchReset, watchTick, watchGate, watchWrite, watchHand}
 use Rattle.agreement.proofs.ControlByte.{control-agrees}

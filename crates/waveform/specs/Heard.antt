@@ -13,7 +13,7 @@ use Rattle.step.specs.Step.{step}
 use Rattle.step.specs.Owed.{madeBy}
 use Rattle.sheet.specs.ControlByte.{Request, noCounter, latchCounter, program, requestOf}
 use Rattle.sheet.specs.Ticking.{Chip}
-use Rattle.agreement.specs.Ticking.{sheetChip}
+use Rattle.agreement.specs.Words.{sheetChip}
 use Rattle.agreement.specs.Watching.{Watch, watchProgram, watchReset, watchTick, watchGate, watchWrite, watchHand}
 
 -- C1: a control byte, as the sheet reads it. A latch is nothing to the output and the count (R2: "counting goes on underneath")

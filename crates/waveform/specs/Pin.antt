@@ -4,9 +4,7 @@ use Prim.Native.Nat.{ℕ, suc, _+_, _<_}
 use mathlib.Core.Bool.{Bool, true, false, not, cond, _&&_}
 use mathlib.Core.List.{List, [], _∷_, _++_}
 use mathlib.Core.Path.{_≡_}
-use lib.Dec.{eqb}
 use lib.ListN.{length}
-use Rattle.channel.specs.declared.Channel.{Channel}
 use Rattle.channel.specs.declared.ChannelMode.{ChannelMode}
 use Rattle.channel.specs.Modes.{modeNumber}
 use Rattle.board.specs.declared.Board.{Board}
@@ -19,8 +17,9 @@ use Rattle.sheet.specs.ControlByte.{Access, lowByte, highByte, lowThenHigh, Req
 use Rattle.sheet.specs.Gate.{fallEffect}
 use Rattle.sheet.specs.Loading.{countOf}
 use Rattle.sheet.specs.Ticking.{held, valueAfter, outputAfter}
-use Rattle.sheet.specs.Counter.{Fixed, leftOpen, fixedAt, awaitsCount, numberWritten, legal}
-use Rattle.agreement.specs.Ticking.{sheetChip}
+use Rattle.sheet.specs.Counter.{Fixed, leftOpen, fixedAt, awaitsCount}
+use Rattle.sheet.specs.CounterTick.{numberWritten, legal}
+use Rattle.agreement.specs.Words.{sheetChip}
 use Rattle.agreement.specs.Watching.{Watch, unprogrammed, watching, oneNow, strays, putsOff}
 use Rattle.waveform.specs.Heard.{watchOver, AllBytes}
 

@@ -1,7 +1,6 @@
--- G0, G2, G3, G4, "high": counting. G0, G4, "rising": nothing, but that a count underway goes on. Assumes nothing.
-use mathlib.Core.Bool.{Bool, true, false, true≢false, cond, _||_}
-use mathlib.Core.Path.{_≡_, refl, sym, _∙_}
-use borrow.Author.Tests.{not-true}
+-- G0, G4, "rising": nothing, but that a count underway goes on. Assumes nothing.
+use mathlib.Core.Bool.{Bool, true, false, true≢false, _||_}
+use mathlib.Core.Path.{_≡_, refl}
 use Rattle.channel.specs.declared.Channel.{Channel}
 use Rattle.channel.specs.declared.ChannelMode.{ChannelMode}
 use Rattle.channel.specs.declared.ChannelMode.the-variants.{InterruptOnTerminalCount, HardwareRetriggerableOneShot, RateGenerator, SquareWaveGenerator, SoftwareTriggeredStrobe, HardwareTriggeredStrobe}
@@ -11,23 +10,12 @@ use Rattle.channel.specs.Shared.{putElement}
 use Rattle.channel.proofs.Pick.{pick-same}
 use Rattle.count.specs.Count.{count}
 use Rattle.gate.specs.Gate.{edge, withGate, setGate}
-use Rattle.sheet.specs.Gate.{riseEffect, highCounts}
-use Rattle.tick.specs.declared.due.Kind.the-variants.{Reload, Count}
-use Rattle.tick.specs.Due.{triggered, reloadsFrom, due}
+use Rattle.sheet.specs.Gate.{riseEffect}
+use Rattle.tick.specs.Due.{triggered}
 use Rattle.tick.specs.Tick.{tick}
-use Rattle.agreement.specs.Gating.{goesOn, rise, high}
+use Rattle.agreement.specs.Gating.{goesOn, rise}
 use Rattle.agreement.proofs.Gate.{loads-agree}
-use Rattle.agreement.proofs.TickCounts.{due-on}
 use Rattle.agreement.proofs.CountsDown.{countsDown, tick-down}
-use Rattle.agreement.proofs.GateNothing.{counts-level}
-
--- a high gate lets a mode run that a low one stops
-runs-high : (m : ChannelMode) (gate : Bool) → highCounts (modeNumber m) ≡ true → gate ≡ true → (triggered m || gate) ≡ true
-runs-high m gate counts level = rw (not-true (triggered m) (sym (counts-level m) ∙ counts)) level
-
-pub high-counts : (c : Channel) → high c ≡ true → c .pins .gate ≡ true → goesOn (c .counter .«channel_state») ≡ true
-    → due c ≡ cond (reloadsFrom (c .control .mode) (c .counter .«counting_element»)) Reload Count
-high-counts c counts level goes = due-on c goes (runs-high (c .control .mode) (c .pins .gate) counts level)
 
 -- a rise where it loads nothing: of the record only the level changes ..
 rise-in : (was : Bool) (c : Channel) → rise c .loads ≡ false → edge was true c ≡ c
