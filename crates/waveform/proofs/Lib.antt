@@ -4,3 +4,4 @@ pub mod Running
 pub mod Ticks
 pub mod Opening
 pub mod Pin
+pub mod Pauses

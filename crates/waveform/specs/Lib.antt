@@ -1,3 +1,4 @@
 pub mod Heard
 pub mod Follows
 pub mod Pin
+pub mod Pauses
