@@ -5,3 +5,4 @@ pub mod Ticks
 pub mod Opening
 pub mod Pin
 pub mod Pauses
+pub mod Witness
