@@ -36,6 +36,8 @@ pub mod TrackSquare
 pub mod TrackRest
 pub mod TrackTick
 pub mod TrackGate
+pub mod Departures
 pub mod TrackWrite
+pub mod TrackFirst
 pub mod TrackBytes
 pub mod TrackOthers

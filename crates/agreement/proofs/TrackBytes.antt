@@ -31,7 +31,9 @@ use Rattle.agreement.specs.Words.{sheetChip}
 use Rattle.agreement.specs.Words.{sheetAccess}
 use Rattle.agreement.specs.Watching.{Watch, unprogrammed, watching, completes, strays, disturbs, lowOf, staysHigh, makesDue, putsOff, watchWrite, IsFixed}
 use Rattle.agreement.proofs.Loading.{stops-agree}
-use Rattle.agreement.proofs.TrackWrite.{done-core, writes-in, is-lowered, begunCore, begun-core, begins}
+use Rattle.agreement.proofs.Departures.{is-lowered}
+use Rattle.agreement.proofs.TrackFirst.{begunCore, begun-core, begins}
+use Rattle.agreement.proofs.TrackWrite.{done-core, writes-in}
 use Rattle.agreement.proofs.Tracking.{coreOf, firstOf, view, Holds, Tracks, not-yet, tracked}
 
 -- a write leaves the gate, and what the mode sets left for loads

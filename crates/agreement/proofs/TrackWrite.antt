@@ -1,38 +1,35 @@
--- W1, M0 to M5 in step with the sheets' counter: every byte written. Assumes nothing.
+-- M0 to M5 in step with the sheets' counter: every whole count written. Assumes nothing.
 use Prim.Native.Nat.{ℕ, _%_, _<_}
 use mathlib.Core.Bool.{Bool, true, false, true≢false, false≢true, not, cond, _&&_, _||_}
-use mathlib.Core.Logic.{_⊎_, inl, inr, ⊎-elim}
+use mathlib.Core.Logic.{_⊎_, ⊎-elim}
 use mathlib.Core.Path.{_≡_, refl, sym, ap, _∙_, subst}
 use lib.Dec.{eqb}
-use borrow.Author.Tests.{eqb-true, not-false}
 use Rattle.channel.specs.declared.Channel.{Channel}
 use Rattle.channel.specs.declared.ChannelMode.{ChannelMode}
 use Rattle.channel.specs.declared.ChannelMode.the-variants.{InterruptOnTerminalCount, HardwareRetriggerableOneShot, RateGenerator, SquareWaveGenerator, SoftwareTriggeredStrobe, HardwareTriggeredStrobe}
 use Rattle.channel.specs.declared.ChannelState.{ChannelState}
-use Rattle.channel.specs.declared.ChannelState.the-variants.{WaitingForReload}
 use Rattle.channel.specs.declared.LoadState.{LoadState}
-use Rattle.channel.specs.declared.LoadState.the-variants.{WaitingForLsb, WaitingForMsb}
+use Rattle.channel.specs.declared.LoadState.the-variants.{WaitingForMsb}
 use Rattle.channel.specs.declared.LoadType.{LoadType}
 use Rattle.channel.specs.declared.LoadType.the-variants.{InitialLoad, SubsequentLoad}
 use Rattle.channel.specs.declared.PitType.{PitType}
-use Rattle.channel.specs.declared.PitType.the-variants.{Model8253, Model8254}
 use Rattle.channel.specs.declared.RwMode.the-variants.{LsbMsb}
 use Rattle.channel.specs.Modes.{modeNumber}
-use Rattle.channel.specs.Shared.{waitsForReload, changeChannelState, changeOutputState}
-use Rattle.channel.proofs.Modes.{every-mode}
+use Rattle.channel.specs.Shared.{waitsForReload, changeChannelState}
 use Rattle.load.specs.Finalize.{waitingState, firstState, loadsAgain, armedBy, completeLoad, finalizeLoad}
-use Rattle.load.specs.Write.{putRegister, stopsOnLowByte, writeByte}
+use Rattle.load.specs.Write.{putRegister}
 use Rattle.tick.specs.Due.{triggered}
 use Rattle.sheet.specs.Gate.{fallEffect}
-use Rattle.sheet.specs.Ticking.{Chip, chip8253, chip8254, squareHigh}
-use Rattle.sheet.specs.Counter.{Fixed, leftOpen, fixedAt, Phase, awaitsCount, awaitsTrigger, loading, counting, lost}
-use Rattle.sheet.specs.CounterWrite.{onCount, lowered, outputOnFirst, complete}
+use Rattle.sheet.specs.Ticking.{Chip}
+use Rattle.sheet.specs.Counter.{Fixed, leftOpen, Phase, awaitsCount, awaitsTrigger, loading, counting, lost}
+use Rattle.sheet.specs.CounterWrite.{onCount, complete}
 use Rattle.agreement.specs.Words.{sheetChip}
 use Rattle.agreement.specs.Watching.{watching, isFirst, orElse, strays, disturbs, makesDue, putsOff, IsFixed, HoldsValue}
 use Rattle.agreement.proofs.SquarePlace.{high-there}
 use Rattle.agreement.proofs.SquareValue.{waitsAtZero}
 use Rattle.agreement.proofs.TrackGate.{standing-not}
-use Rattle.agreement.proofs.Tracking.{Core, coreOf, view, RuleIn, Rules, down, rate, Square, square, paused, Standing, WaitsIn, Loading, Counts, LostIn, PhaseAt, Holds, Tracks, tracked}
+use Rattle.agreement.proofs.Tracking.{Core, coreOf, view, RuleIn, Rules, down, rate, Square, square, paused, Standing, WaitsIn, Loading, Counts, LostIn, PhaseAt, Tracks, tracked}
+use Rattle.agreement.proofs.Departures.{no-disturb, first-undisturbed, loading-undisturbed, lost-undisturbed, or-both, no-stray, later-strays, waits-so, first-come, four-tests, five-tests, or-left, alike-by, and-true}
 
 -- a record with a whole count w written to it, in a state
 abbrev pub done : ℕ → LoadState → ChannelState → Core → Core
@@ -73,94 +70,6 @@ module _ (c : Channel) (w : ℕ) (s : LoadState) (defer : Bool) where
   pub done-core : (t : LoadType) → c .load .«load_type» ≡ t → coreOf (finalizeLoad (putRegister c w s) defer) ≡ done w s (entered t defer (coreOf c)) (coreOf c)
   done-core InitialLoad type = first-core type
   done-core SubsequentLoad type = later-core type (loadsAgain (c .control .mode)) refl
-
--- the departures that a mode does not know
-no-disturb : (chip : Chip) (m : ℕ) (p : Phase) (x : ℕ) → eqb m 3 ≡ false → disturbs chip m p x ≡ false
-no-disturb chip8253 m p x other = refl
-no-disturb chip8254 m awaitsCount x other = refl
-no-disturb chip8254 m awaitsTrigger x other = refl
-no-disturb chip8254 m loading x other = refl
-no-disturb chip8254 m (counting n j) x other = simp other
-no-disturb chip8254 m lost x other = refl
-
-pub first-undisturbed : (chip : Chip) (m x : ℕ) → disturbs chip m awaitsCount x ≡ false
-first-undisturbed chip8253 m x = refl
-first-undisturbed chip8254 m x = refl
-
-loading-undisturbed : (chip : Chip) (x : ℕ) → disturbs chip 3 loading x ≡ false
-loading-undisturbed chip8253 x = refl
-loading-undisturbed chip8254 x = refl
-
-lost-undisturbed : (chip : Chip) (x : ℕ) → disturbs chip 3 lost x ≡ false
-lost-undisturbed chip8253 x = refl
-lost-undisturbed chip8254 x = refl
-
--- where both or neither
-or-both : (a b : Bool) → a ≡ false → b ≡ false → (a || b) ≡ false
-or-both true b x y = absurd (true≢false x)
-or-both false b x y = y
-
-no-stray : (defer : Bool) (m : ℕ) (p : Phase) (one : Fixed Bool) → eqb m 5 ≡ false → eqb m 4 ≡ false → strays defer m p one ≡ false
-no-stray defer m awaitsCount one five four = simp (five, four)
-no-stray defer m awaitsTrigger one five four = refl
-no-stray defer m loading one five four = refl
-no-stray defer m (counting n j) one five four = refl
-no-stray defer m lost one five four = refl
-
-later-strays : (defer : Bool) (m : ℕ) (p : Phase) (one : Fixed Bool) → isFirst p ≡ false → strays defer m p one ≡ false
-later-strays defer m p one later = simp later
-
--- the state that waits waits so
-waits-so : (defer : Bool) (m : ChannelMode) → WaitsIn defer (waitingState defer) m
-waits-so true m = refl
-waits-so false m = tt
-
-first-come : (rule defer : Bool) → waitsForReload (firstState rule defer) ≡ false
-first-come true defer = refl
-first-come false true = refl
-first-come false false = refl
-
-pub is-lowered : (o : Fixed Bool) (level : Bool) → IsFixed o level → IsFixed (lowered o) level
-is-lowered leftOpen level is = tt
-is-lowered (fixedAt true) level is = tt
-is-lowered (fixedAt false) level is = is
-
--- S1, S5: what modes 4 and 5 go by, of their first count
-four-tests : (one : Fixed Bool) (rule defer : Bool) → IsFixed one rule → (m : ChannelMode) → triggered m ≡ false
-    → ((strays defer 4 awaitsCount one ≡ false) × WaitsIn (putsOff defer 4 awaitsCount one) (firstState rule defer) m) ⊎ (strays defer 4 awaitsCount one ≡ true)
-four-tests (fixedAt true) rule true is m none = inl (refl, rw is none)
-four-tests (fixedAt true) rule false is m none = inl (refl, rw is none)
-four-tests (fixedAt false) rule true is m none = inl (refl, rw is refl)
-four-tests (fixedAt false) rule false is m none = inl (refl, rw is tt)
-four-tests leftOpen rule true is m none = inr refl
-four-tests leftOpen true false is m none = inl (refl, none)
-four-tests leftOpen false false is m none = inl (refl, tt)
-
-five-tests : (one : Fixed Bool) (rule defer : Bool) → IsFixed one rule
-    → ((strays defer 5 awaitsCount one ≡ false) × (rule ≡ true)) ⊎ (strays defer 5 awaitsCount one ≡ true)
-five-tests (fixedAt true) rule defer is = inl (refl, is)
-five-tests (fixedAt false) rule defer is = inr refl
-five-tests leftOpen rule defer is = inr refl
-
-or-left : (a b : Bool) → a ≡ true → (a || b) ≡ true
-or-left true b is = refl
-or-left false b is = absurd (false≢true is)
-
--- S4: a count of the same parity, or one that comes in the low half, leaves the running half alone
-same-parity : (a b : ℕ) → eqb a b ≡ true → eqb b 1 ≡ eqb a 1
-same-parity a b is = ap (λ (r : ℕ). eqb r 1) (sym (eqb-true a b is))
-
-alike-by : (model : PitType) (high : Bool) (n j w x : ℕ) → squareHigh n j ≡ high → w % 2 ≡ x % 2 → disturbs (sheetChip model) 3 (counting n j) x ≡ false
-    → waitsAtZero model w high ≡ waitsAtZero model n high
-alike-by Model8253 high n j w x there parity none = refl
-alike-by Model8254 false n j w x there parity none = refl
-alike-by Model8254 true n j w x there parity none =
-    let differs : not (eqb (n % 2) (x % 2)) ≡ false = rw there at none in
-    ap (λ (r : ℕ). eqb r 1) parity ∙ same-parity (n % 2) (x % 2) (not-false (eqb (n % 2) (x % 2)) differs)
-
-and-true : (d : Bool) → (d && true) ≡ d
-and-true true = refl
-and-true false = refl
 
 module _ (model : PitType) (one : Fixed Bool) (v : Fixed ℕ) (late : Bool) (c : Core) (rules : Rules model one c)
     (value-is : HoldsValue v (c .control .«bcd_mode») (c .element)) (w x : ℕ) (s : LoadState) (defer : Bool) (small : w < 65536) (parity : w % 2 ≡ x % 2)
@@ -425,111 +334,3 @@ module _ (model : PitType) (one : Fixed Bool) (v : Fixed ℕ) (late : Bool) (c :
   writes-in SquareWaveGenerator mode p h = three-mode mode p h
   writes-in SoftwareTriggeredStrobe mode p h = four-mode mode p h
   writes-in HardwareTriggeredStrobe mode p h = five-mode mode p h
-
--- the first byte of two
-abbrev pub begunCore : ℕ → Bool → Core → Core
-begunCore byte stops c =
-    record {
-      control = c .control;
-      reloading = c .reloading;
-      load =
-          record {
-            «count_register» = byte;
-            «reload_value» = c .load .«reload_value»;
-            «load_state» = WaitingForMsb;
-            «load_type» = c .load .«load_type»;
-            armed = c .load .armed;
-          };
-      state = cond stops WaitingForReload (c .state);
-      element = c .element;
-      pins = record { gate = c .pins .gate; output = cond stops false (c .pins .output) };
-    }
-
-pub begun-core : (c : Channel) (byte : ℕ) (defer stops : Bool) → c .control .«rw_mode» ≡ LsbMsb → c .load .«load_state» ≡ WaitingForLsb
-    → stopsOnLowByte (c .control .mode) ≡ stops → coreOf (writeByte c byte defer) ≡ begunCore byte stops (coreOf c)
-unfolding writeByte putRegister changeChannelState changeOutputState
-begun-core c byte defer true both waits stops = simp (both, waits, stops)
-begun-core c byte defer false both waits stops = simp (both, waits, stops)
-
-lowered-low : (o : Fixed Bool) → IsFixed (lowered o) false
-lowered-low leftOpen = tt
-lowered-low (fixedAt true) = tt
-lowered-low (fixedAt false) = refl
-
-first-low : (chip : Chip) (o : Fixed Bool) → IsFixed (outputOnFirst chip o) false
-first-low chip8253 o = lowered-low o
-first-low chip8254 o = refl
-
-only-zero : (m : ChannelMode) → stopsOnLowByte m ≡ true → m ≡ InterruptOnTerminalCount
-only-zero =
-    every-mode (λ (m : ChannelMode). stopsOnLowByte m ≡ true → m ≡ InterruptOnTerminalCount)
-    (λ s. refl) (λ s. absurd (false≢true s)) (λ s. absurd (false≢true s)) (λ s. absurd (false≢true s)) (λ s. absurd (false≢true s)) (λ s. absurd (false≢true s))
-
-module _ (model : PitType) (c : Core) (byte : ℕ) where
-  there-begun : (n j : ℕ) → Standing model c n j → Standing model (begunCore byte false c) n j
-  there-begun n j (down d) = down (record { down = d .down; has-value = d .has-value; goes = d .goes; level = d .level; armed = d .armed })
-  there-begun n j (rate r) =
-      rate (record { rate = r .rate; in-period = r .in-period; has-value = r .has-value; level = r .level; counts = r .counts; gate-high = r .gate-high })
-  there-begun n j (square q) =
-      square
-      (record {
-        square = q .square;
-        high = q .high;
-        age = q .age;
-        in-period = q .in-period;
-        stands = q .stands;
-        has-value = q .has-value;
-        level = q .level;
-        counts = q .counts;
-        gate-high = q .gate-high;
-        alike = q .alike;
-      })
-  there-begun n j (paused q) =
-      paused (record { repeats = q .repeats; in-period = q .in-period; has-value = q .has-value; holds = q .holds; gate-low = q .gate-low })
-
-  lost-begun : (t : LoadType) → c .load .«load_type» ≡ t → LostIn t c → LostIn (c .load .«load_type») (begunCore byte false c)
-  lost-begun InitialLoad type h = rw type h
-  lost-begun SubsequentLoad type h = rw type h
-
-  phase-begun : (p : Phase) (late : Bool) → PhaseAt p late model c → PhaseAt p late model (begunCore byte false c)
-  phase-begun awaitsCount late h = record { waits = h .waits; none = h .none; is-high = h .is-high }
-  phase-begun awaitsTrigger late h = record { waits = h .waits; starts = h .starts; complete = h .complete }
-  phase-begun loading late h = record { waits = h .waits; complete = h .complete }
-  phase-begun (counting n j) late h = record { complete = h .complete; at-least = h .at-least; at-most = h .at-most; there = there-begun n j (h .there) }
-  phase-begun lost late h = lost-begun (c .load .«load_type») refl h
-
-  module _ (one : Fixed Bool) (o : Fixed Bool) (v : Fixed ℕ) (p : Phase) (late : Bool) (h : Holds model p o v late one c) where
-    rules-begun : (stops : Bool) → stopsOnLowByte (c .control .mode) ≡ stops → Rules model one (begunCore byte stops c)
-    rules-begun true stops =
-        record { masked = h .rules .masked; one-is = h .rules .one-is; rule-is = h .rules .rule-is; sixteen = h .rules .sixteen; half = λ both zero waits. (refl, refl) }
-    rules-begun false stops =
-        record {
-          masked = h .rules .masked;
-          one-is = h .rules .one-is;
-          rule-is = h .rules .rule-is;
-          sixteen = h .rules .sixteen;
-          half = λ both zero waits. absurd (true≢false (sym (ap stopsOnLowByte zero) ∙ stops));
-        }
-
-    abbrev begunOutput : Bool → Fixed Bool
-    begunOutput stops = cond stops (outputOnFirst (sheetChip model) o) o
-
-    pub begins : (stops : Bool) → stopsOnLowByte (c .control .mode) ≡ stops
-        → Tracks model (watching (view (begunCore byte stops c) (cond stops awaitsCount p) (begunOutput stops) v) late one) (begunCore byte stops c)
-    begins true stops =
-        let zero : c .control .mode ≡ InterruptOnTerminalCount = only-zero (c .control .mode) stops in
-        tracked awaitsCount (outputOnFirst (sheetChip model) o) v late one refl
-        (record {
-          rules = rules-begun true stops;
-          phase-is =
-              record {
-                waits = refl;
-                none = λ other. absurd (other zero);
-                is-high = λ raises. absurd (false≢true (sym (ap (λ (m : ChannelMode). fallEffect (modeNumber m) .raises) zero) ∙ raises));
-              };
-          output-is = first-low (sheetChip model) o;
-          value-is = h .value-is;
-        })
-    begins false stops =
-        tracked p o v late one refl
-        (record { rules = rules-begun false stops; phase-is = phase-begun p late (h .phase-is); output-is = h .output-is; value-is = h .value-is })

@@ -21,7 +21,7 @@ use Rattle.sheet.specs.CounterTick.{numberWritten, legal, at, loadHalf, rested,
 use Rattle.sheet.specs.CounterWrite.{onCount, outputOnCount, lowered, outputOnFirst}
 use Rattle.sheet.specs.CounterGate.{edge}
 use Rattle.agreement.specs.Watching.{Watch, unprogrammed, watching, oneNow, gateOf, watchProgram, tickLate, watchTick, fallen, watchGate, staysHigh, strays, disturbs, makesDue, putsOff, watchWrite}
-use Rattle.agreement.proofs.TrackWrite.{first-undisturbed}
+use Rattle.agreement.proofs.Departures.{first-undisturbed}
 use Rattle.waveform.specs.Pin.{bytesIn, writtenIn, triggered, afterOne}
 use Rattle.waveform.proofs.Running.{placeOf, ticked}
 
