@@ -35,6 +35,10 @@ pub mod TrackRate
 pub mod TrackSquare
 pub mod TrackRest
 pub mod TrackTick
+pub mod GateTables
+pub mod GateCores
+pub mod TrackRise
+pub mod TrackFall
 pub mod TrackGate
 pub mod Departures
 pub mod TrackWrite

@@ -32,7 +32,7 @@ use Rattle.agreement.specs.Watching.{Watch, unprogrammed, watching, oneN
 use Rattle.agreement.proofs.HeldCounts.{counts-reloading, counts-load, counts-pins, counts-state}
 use Rattle.agreement.proofs.Output.{output-agrees}
 use Rattle.agreement.proofs.TrackBytes.{low-first}
-use Rattle.agreement.proofs.TrackGate.{standing-not, waiting-not}
+use Rattle.agreement.proofs.GateTables.{standing-not, waiting-not}
 use Rattle.agreement.proofs.Tracking.{Core, coreOf, firstOf, RuleIn, LostIn, PhaseAt, Holds, Tracks, not-yet, tracked}
 
 -- the mode set

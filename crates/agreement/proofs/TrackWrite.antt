@@ -27,7 +27,7 @@ use Rattle.agreement.specs.Words.{sheetChip}
 use Rattle.agreement.specs.Watching.{watching, isFirst, orElse, strays, disturbs, makesDue, putsOff, IsFixed, HoldsValue}
 use Rattle.agreement.proofs.SquarePlace.{high-there}
 use Rattle.agreement.proofs.SquareValue.{waitsAtZero}
-use Rattle.agreement.proofs.TrackGate.{standing-not}
+use Rattle.agreement.proofs.GateTables.{standing-not}
 use Rattle.agreement.proofs.Tracking.{Core, coreOf, view, RuleIn, Rules, down, rate, Square, square, paused, Standing, WaitsIn, Loading, Counts, LostIn, PhaseAt, Tracks, tracked}
 use Rattle.agreement.proofs.Departures.{no-disturb, first-undisturbed, loading-undisturbed, lost-undisturbed, or-both, no-stray, later-strays, waits-so, first-come, four-tests, five-tests, or-left, alike-by, and-true}
 
