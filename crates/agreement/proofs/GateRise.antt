@@ -14,6 +14,7 @@ use Rattle.channel.proofs.Modes.{every-mode}
 use Rattle.channel.proofs.Pick.{pick-same}
 use Rattle.gate.specs.Gate.{withGate, setGate}
 use Rattle.load.specs.Cycle.{loadValue}
+use Rattle.load.proofs.Value.{value-alike}
 use Rattle.sheet.specs.Gate.{riseEffect}
 use Rattle.tick.specs.declared.due.Kind.the-variants.{Load}
 use Rattle.tick.specs.Due.{due}
@@ -56,8 +57,8 @@ module _ (model : PitType) (c : Channel) where
   rise-level loads = tick-level model (afterRise c) (rise-due c) ∙ risen-level (eqb (c .load .«reload_value») 1) (c .control .mode) loads
 
   rise-value : neverLoaded c ≡ false → tick model (afterRise c) .counter .«counting_element» ≡ loadValue c
-  unfolding changeChannelState loadValue
-  rise-value may = tick-loads (afterRise c) may model (rise-due c) .has-value
+  unfolding changeChannelState
+  rise-value may = tick-loads (afterRise c) may model (rise-due c) .has-value ∙ value-alike c (afterRise c) refl refl refl
 
   rise-counting : neverLoaded c ≡ false → tick model (afterRise c) .counter .«channel_state» ≡ Counting Normal
   unfolding changeChannelState

@@ -7,20 +7,13 @@ use lib.Bits.{bitAnd, and-le-l}
 use Rattle.channel.specs.declared.Channel.{Channel}
 use Rattle.channel.specs.declared.ChannelMode.{ChannelMode}
 use Rattle.channel.specs.declared.ChannelMode.the-variants.{SquareWaveGenerator}
-use Rattle.channel.proofs.Modes.{every-mode}
+use Rattle.channel.proofs.Modes.{every-mode, outside-three}
 use Rattle.load.specs.Cycle.{maskedIn, loadValue}
-
-abbrev Whole : ℕ → ℕ → ChannelMode → Type 0
-Whole value mask m = (m ≡ SquareWaveGenerator → ⊥) → maskedIn m value mask ≡ value
-
-whole-in : (value mask : ℕ) (m : ChannelMode) → Whole value mask m
-whole-in value mask =
-    every-mode (Whole value mask) (λ other. refl) (λ other. refl) (λ other. refl) (λ other. absurd (other refl)) (λ other. refl) (λ other. refl)
 
 module _ (c : Channel) where
   pub value-whole : (c .control .mode ≡ SquareWaveGenerator → ⊥) → loadValue c ≡ c .load .«reload_value»
   unfolding loadValue
-  value-whole = whole-in (c .load .«reload_value») (c .reloading .«load_mask») (c .control .mode)
+  value-whole = outside-three (c .load .«reload_value») (bitAnd (c .load .«reload_value») (c .reloading .«load_mask»)) (c .control .mode)
 
   pub value-masked : c .control .mode ≡ SquareWaveGenerator → loadValue c ≡ bitAnd (c .load .«reload_value») (c .reloading .«load_mask»)
   unfolding loadValue
