@@ -46,7 +46,7 @@ fn reload_on_trigger(mode: ChannelMode, waits: bool) -> bool
 {
     match mode {
         ChannelMode::InterruptOnTerminalCount => false,
-        ChannelMode::HardwareRetriggerableOneShot => true,
+        ChannelMode::HardwareRetriggerableOneShot => true, // its first count waits for a trigger
         ChannelMode::RateGenerator => false,
         ChannelMode::SquareWaveGenerator => false,
         ChannelMode::SoftwareTriggeredStrobe => waits,
