@@ -1,6 +1,7 @@
 -- What the sheets' gate tables say of each other and of document 01's, mode by mode, and of the states that an edge finds. Assumes nothing.
 use Prim.Native.Nat.{ℕ}
 use mathlib.Core.Bool.{Bool, true, false, true≢false, false≢true, cond}
+use mathlib.Core.Logic.{_⊎_, ⊎-elim}
 use mathlib.Core.Path.{_≡_, refl, sym, ap, _∙_}
 use lib.Dec.{eqb}
 use Rattle.channel.specs.declared.Channel.{Channel}
@@ -19,24 +20,27 @@ use Rattle.tick.specs.Due.{triggered}
 use Rattle.sheet.specs.Gate.{fallEffect, riseEffect}
 use Rattle.sheet.specs.Counter.{Fixed, fixedAt, loading}
 use Rattle.agreement.specs.Gating.{underway, goesOn}
-use Rattle.agreement.specs.Watching.{losesLoad, IsFixed}
+use Rattle.agreement.specs.Watching.{IsFixed}
 use Rattle.agreement.proofs.CountsDown.{countsDown}
 use Rattle.agreement.proofs.TrackTick.{load-come}
-use Rattle.agreement.proofs.Tracking.{Core, down, rate, square, paused, Standing, WaitsIn}
+use Rattle.agreement.proofs.Tracking.{Core, TriggerAwaited, down, rate, square, paused, Standing, WaitsIn}
 
 -- what the tables say of each other
-pub stops-raises : (m : ChannelMode) → fallEffect (modeNumber m) .stops ≡ false → fallEffect (modeNumber m) .raises ≡ false
-stops-raises =
-    every-mode (λ (m : ChannelMode). fallEffect (modeNumber m) .stops ≡ false → fallEffect (modeNumber m) .raises ≡ false)
-    (λ s. refl) (λ s. refl) (λ s. absurd (true≢false s)) (λ s. absurd (true≢false s)) (λ s. refl) (λ s. refl)
-
 pub still-raises : (m : ChannelMode) → gate.stopsOnFall m ≡ false → fallEffect (modeNumber m) .raises ≡ false
 still-raises =
     every-mode (λ (m : ChannelMode). gate.stopsOnFall m ≡ false → fallEffect (modeNumber m) .raises ≡ false)
     (λ s. refl) (λ s. refl) (λ s. absurd (true≢false s)) (λ s. absurd (true≢false s)) (λ s. absurd (true≢false s)) (λ s. refl)
 
-pub loses-agree : (m : ChannelMode) → losesLoad (modeNumber m) loading ≡ gate.stopsOnFall m
-loses-agree = every-mode (λ (m : ChannelMode). losesLoad (modeNumber m) loading ≡ gate.stopsOnFall m) refl refl refl refl refl refl
+-- a fall that enters a state raises the output, or the mode is 4
+pub quiet-fall : (m : ChannelMode) → fallEffect (modeNumber m) .raises ≡ false → eqb (modeNumber m) 4 ≡ false → gate.stopsOnFall m ≡ false
+quiet-fall =
+    every-mode (λ (m : ChannelMode). fallEffect (modeNumber m) .raises ≡ false → eqb (modeNumber m) 4 ≡ false → gate.stopsOnFall m ≡ false)
+    (λ r f. refl) (λ r f. refl) (λ r f. absurd (true≢false r)) (λ r f. absurd (true≢false r)) (λ r f. absurd (true≢false f)) (λ r f. refl)
+
+pub raised-holds : (m : ChannelMode) → fallEffect (modeNumber m) .raises ≡ true → (gate.stopsOnFall m ≡ true) × (doesRetrigger m ≡ true)
+raised-holds =
+    every-mode (λ (m : ChannelMode). fallEffect (modeNumber m) .raises ≡ true → (gate.stopsOnFall m ≡ true) × (doesRetrigger m ≡ true))
+    (λ r. absurd (false≢true r)) (λ r. absurd (false≢true r)) (λ r. (refl, refl)) (λ r. (refl, refl)) (λ r. absurd (false≢true r)) (λ r. absurd (false≢true r))
 
 pub loads-not-zero : (m : ChannelMode) → riseEffect (modeNumber m) .loads ≡ true → m ≡ InterruptOnTerminalCount → ⊥
 loads-not-zero m loads zero-mode = false≢true (sym (ap (λ (x : ChannelMode). riseEffect (modeNumber x) .loads) zero-mode) ∙ loads)
@@ -111,3 +115,9 @@ gate-load c level = simp (of-pick (λ (d : Channel). d .load), edge-load (c .pin
 pub raised : (b : Bool) (o : Fixed Bool) (level : Bool) → IsFixed o level → IsFixed (cond b (fixedAt true) o) (cond b true level)
 raised true o level is = refl
 raised false o level is = is
+
+pub trigger-not : (c : Core) → TriggerAwaited c → waitsForReload (c .state) ≡ false
+trigger-not c =
+    ⊎-elim
+    (λ (waits : (c .state ≡ WaitingForLoadTrigger) × (triggered (c .control .mode) ≡ true)). ap waitsForReload (waits .0))
+    (λ (held : (underway (c .state) ≡ true) × ((doesRetrigger (c .control .mode) ≡ true) × (c .pins .gate ≡ false))). underway-not (c .state) (held .0))

@@ -10,6 +10,7 @@ pub mod HeldMarks
 pub mod SquareHeld
 pub mod SquarePlace
 pub mod SquareValue
+pub mod SquareOther
 pub mod SquareSet
 pub mod SquareTick
 pub mod Square

@@ -33,9 +33,9 @@ Wave model bcd high v d = At model bcd (flagOf v) high v d
 
 -- a count of n, on the counter's way, with any count written meanwhile
 module _ (model : PitType) (bcd : Bool) (n : ℕ) (least : 2 ≤ n) (most : n ≤ radixCounts bcd) where
-  -- what is written waits at zero as n does: always, but for a count of the other parity in the high half of the 8254
-  abbrev pub Alike : Bool → Channel → Type 0
-  Alike high d = waitsAtZero model (d .load .«reload_value») high ≡ waitsAtZero model n high
+  -- what is written waits at zero as n does, as long as the counter has not come there: always, but for a count of the other parity in the high half of the 8254
+  abbrev pub Alike : Bool → ℕ → Channel → Type 0
+  Alike high v d = 0 < v → waitsAtZero model (d .load .«reload_value») high ≡ waitsAtZero model n high
 
   counting : (high : Bool) (v : ℕ) (d : Channel) → 0 < v → Wave model bcd high v d → At model bcd Normal high v d
   counting high v d pos h = subst (λ (f : ReloadFlag). At model bcd f high v d) (normal v pos) h
@@ -44,13 +44,13 @@ module _ (model : PitType) (bcd : Bool) (n : ℕ) (least : 2 ≤ n) (most : n �
   wave high v d pos h = subst (λ (f : ReloadFlag). At model bcd f high v d) (sym (normal v pos)) h
 
   -- one tick inside a half
-  moved : (high : Bool) (v w : ℕ) (d : Channel) → v ≤ radixCounts bcd → Alike high d → Moves model n high v w → Wave model bcd high v d
+  moved : (high : Bool) (v w : ℕ) (d : Channel) → v ≤ radixCounts bcd → Alike high v d → Moves model n high v w → Wave model bcd high v d
       → Wave model bcd high w (tick model d)
   moved high v w d top alike (counts t takes e some left) h =
       wave high w (tick model d) left (by-tick.goes-on model bcd high v t d top takes (counting high v d (omega arith) h) w e some left)
   moved high v w d top alike (stops takes pos waits none) h =
       subst (λ (x : ℕ). Wave model bcd high x (tick model d)) (sym none)
-      (by-tick.lingers model bcd high v v d top takes (counting high v d pos h) refl (alike ∙ waits))
+      (by-tick.lingers model bcd high v v d top takes (counting high v d pos h) refl (alike pos ∙ waits))
 
   -- the channel s ticks into a half
   abbrev pub In : Bool → ℕ → Channel → Type 0
@@ -59,20 +59,20 @@ module _ (model : PitType) (bcd : Bool) (n : ℕ) (least : 2 ≤ n) (most : n �
   small : (high : Bool) (s : ℕ) → halfValue (sheetChip model) n high s ≤ radixCounts bcd
   small high s = le-trans (at-most-count (sheetChip model) n high s) most
 
-  pub inside : (high : Bool) (s : ℕ) (d : Channel) → suc s < halfTicks high n → Alike high d → In high s d → In high (suc s) (tick model d)
+  pub inside : (high : Bool) (s : ℕ) (d : Channel) → suc s < halfTicks high n → Alike high (halfValue (sheetChip model) n high s) d → In high s d → In high (suc s) (tick model d)
   inside high s d on alike h =
       moved high (halfValue (sheetChip model) n high s) (halfValue (sheetChip model) n high (suc s)) d (small high s) alike (moves n least model high s on) h
 
   -- its last tick loads the count m that is written then
   module _ (m : ℕ) (d : Channel) (written : d .load .«reload_value» ≡ held bcd m) (from-two : 2 ≤ m) (in-range : m ≤ radixCounts bcd) where
-    ended : (high : Bool) (v : ℕ) → v ≤ radixCounts bcd → Alike high d → Ends model n high v → Wave model bcd high v d
+    ended : (high : Bool) (v : ℕ) → v ≤ radixCounts bcd → Alike high v d → Ends model n high v → Wave model bcd high v d
         → At model bcd Normal (not high) (loadedCount model m) (tick model d)
     ended high v top alike (at-once takes pos now) h =
-        by-tick.ends model bcd high v v d top takes (counting high v d pos h) refl (alike ∙ now) m written from-two in-range
+        by-tick.ends model bcd high v v d top takes (counting high v d pos h) refl (alike pos ∙ now) m written from-two in-range
     ended high v top alike (waited none) h =
         by-tick.reloads model bcd high d (subst (λ (x : ℕ). Wave model bcd high x d) none h) m written from-two in-range
 
-    pub over : (high : Bool) (s : ℕ) → suc s ≡ halfTicks high n → Alike high d → In high s d
+    pub over : (high : Bool) (s : ℕ) → suc s ≡ halfTicks high n → Alike high (halfValue (sheetChip model) n high s) d → In high s d
         → At model bcd Normal (not high) (loadedCount model m) (tick model d)
     over high s last alike h =
         ended high (halfValue (sheetChip model) n high s) (small high s) alike (ends n least model high s last) h
@@ -81,6 +81,11 @@ module _ (model : PitType) (bcd : Bool) (n : ℕ) (least : 2 ≤ n) (most : n �
   pub begun : (high : Bool) (d : Channel) → At model bcd Normal high (loadedCount model n) d → In high 0 d
   begun high d h =
       subst (λ (x : ℕ). Wave model bcd high x d) (sym (begins model n high)) (wave high (loadedCount model n) d (loaded-above model n least) h)
+
+-- inside a half something is left
+pub some-left : (model : PitType) (n : ℕ) (high : Bool) (v w : ℕ) → Moves model n high v w → 0 < v
+some-left model n high v w (counts t takes e some left) = omega arith
+some-left model n high v w (stops takes pos waits none) = pos
 
 -- nothing else is written: the count is n all the time
 pub waits-alike : (model : PitType) (bcd high : Bool) (n : ℕ) → waitsAtZero model (held bcd n) high ≡ waitsAtZero model n high

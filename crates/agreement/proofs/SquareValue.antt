@@ -63,10 +63,10 @@ two model n high v w even e left = counts 2 (takes-even high v even) e (omega ar
 last-two : (model : PitType) (n : ℕ) (high : Bool) (v : ℕ) → v ≡ 2 → waitsAtZero model n high ≡ false → Ends model n high v
 last-two model n high v e now = at-once (rw e refl) (omega arith) now
 
-value-even : (chip : Chip) (n : ℕ) (high : Bool) (s : ℕ) → n % 2 ≡ 0 → halfValue chip n high s ≡ n - 2 * s
+pub value-even : (chip : Chip) (n : ℕ) (high : Bool) (s : ℕ) → n % 2 ≡ 0 → halfValue chip n high s ≡ n - 2 * s
 value-even chip n high s even = simp (eq-eqb (n % 2) 0 even)
 
-value-odd : (chip : Chip) (n : ℕ) (high : Bool) (s : ℕ) → n % 2 ≡ 1 → halfValue chip n high s ≡ oddValue chip n high s
+pub value-odd : (chip : Chip) (n : ℕ) (high : Bool) (s : ℕ) → n % 2 ≡ 1 → halfValue chip n high s ≡ oddValue chip n high s
 value-odd chip n high s odd = simp (ne-eqb (n % 2) 0 (omega arith))
 
 -- the 8253's odd count after its first tick

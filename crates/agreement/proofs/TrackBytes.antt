@@ -24,14 +24,12 @@ use Rattle.load.specs.Write.{putRegister, stopsOnLowByte, stopped, beginsWord, 
 use Rattle.sheet.specs.ControlByte.{Access, lowByte, highByte, lowThenHigh}
 use Rattle.sheet.specs.Loading.{countOf}
 use Rattle.sheet.specs.Ticking.{Chip}
-use Rattle.sheet.specs.Counter.{Fixed, leftOpen, fixedAt, Phase, awaitsCount, lost, Counter, standing}
-use Rattle.sheet.specs.CounterTick.{nowhere}
-use Rattle.sheet.specs.CounterWrite.{onCount, outputOnCount, lowered, outputOnFirst, complete, writeWord, writeIn}
+use Rattle.sheet.specs.Counter.{Fixed, leftOpen, fixedAt, Phase, awaitsCount, Counter, standing}
+use Rattle.sheet.specs.CounterWrite.{outputOnCount, outputOnFirst, complete, writeWord, writeIn}
 use Rattle.agreement.specs.Words.{sheetChip}
 use Rattle.agreement.specs.Words.{sheetAccess}
-use Rattle.agreement.specs.Watching.{Watch, unprogrammed, watching, completes, strays, disturbs, lowOf, staysHigh, makesDue, putsOff, watchWrite, IsFixed}
+use Rattle.agreement.specs.Watching.{Watch, unprogrammed, watching, completes, countPhase, lowOf, staysHigh, makesDue, putsOff, watchWrite, IsFixed}
 use Rattle.agreement.proofs.Loading.{stops-agree}
-use Rattle.agreement.proofs.Departures.{is-lowered}
 use Rattle.agreement.proofs.TrackFirst.{begunCore, begun-core, begins}
 use Rattle.agreement.proofs.TrackWrite.{done-core, writes-in}
 use Rattle.agreement.proofs.Tracking.{coreOf, firstOf, view, Holds, Tracks, not-yet, tracked}
@@ -112,8 +110,10 @@ module _ (model : PitType) (one : Fixed Bool) (o : Fixed Bool) (v : Fixed ℕ) (
   abbrev watchedBy : Access → Fixed ℕ → Counter → Watch
   watchedBy a first k =
       watching
-      (cond (completes a first && (strays defer mode p one || disturbs chip mode p (lowOf a first byte))) (nowhere k)
-      (standing k (k .phase) (cond (staysHigh a mode) (lowered o) (k .output)) (k .value)))
+      (standing k
+      (cond (completes a first) (countPhase chip defer mode (c .control .«bcd_mode») one (lowOf a first byte) p) (k .phase))
+      (cond (staysHigh a mode) o (k .output))
+      (k .value))
       (cond (completes a first && makesDue mode p) (putsOff defer mode p one) late)
       one
 
@@ -138,7 +138,7 @@ module _ (model : PitType) (one : Fixed Bool) (o : Fixed Bool) (v : Fixed ℕ) (
   abbrev whole : Fixed ℕ → ℕ → ℕ → Fixed Bool → Watch
   whole first w x o' =
       watching
-      (cond (strays defer mode p one || disturbs chip mode p x) (wholeAt first w lost leftOpen leftOpen) (wholeAt first w (onCount mode p) o' v))
+      (wholeAt first w (countPhase chip defer mode (c .control .«bcd_mode») one x p) o' v)
       (cond (makesDue mode p) (putsOff defer mode p one) late)
       one
 
@@ -152,9 +152,9 @@ module _ (model : PitType) (one : Fixed Bool) (o : Fixed Bool) (v : Fixed ℕ) (
       (writes-in model one v late (coreOf c) (h .rules) (h .value-is) w x s defer below parity over o' output (c .control .mode) refl p (h .phase-is))))
 
   -- S7: with one-byte access the output stays
-  one-byte : (z : Bool) → eqb mode 0 ≡ z → IsFixed (cond z (lowered o) (cond z (fixedAt false) o)) (c .pins .output)
-  one-byte true is = is-lowered o (c .pins .output) (h .output-is)
-  one-byte false is = h .output-is
+  one-byte : (z : Bool) → IsFixed (cond z o (cond z (fixedAt false) o)) (c .pins .output)
+  one-byte true = h .output-is
+  one-byte false = h .output-is
 
   -- .. and with two it has fallen with the first
   two-bytes : c .control .«rw_mode» ≡ LsbMsb → c .load .«load_state» ≡ WaitingForMsb → (z : Bool) → eqb mode 0 ≡ z
@@ -171,8 +171,8 @@ module _ (model : PitType) (one : Fixed Bool) (o : Fixed Bool) (v : Fixed ℕ) (
       subst (λ (a : RwMode). Tracks model (watched lowByte leftOpen) (coreOf (writeAt a (c .load .«load_state») c byte defer))) (sym access)
       (completing byte byte (c .load .«load_state») (omega arith) refl (λ both waits. low-not (sym access ∙ both))
       (ap (λ (a : RwMode). firstOf a (c .load .«load_state») byte) access)
-      (cond (eqb mode 0) (lowered o) (outputOnCount mode o))
-      (one-byte (eqb mode 0) refl) (countOf byte 0) (omega arith))
+      (cond (eqb mode 0) o (outputOnCount mode o))
+      (one-byte (eqb mode 0)) (countOf byte 0) (omega arith))
 
   high-writes : c .control .«rw_mode» ≡ Msb → After highByte leftOpen
   unfolding writeByte
@@ -180,8 +180,8 @@ module _ (model : PitType) (one : Fixed Bool) (o : Fixed Bool) (v : Fixed ℕ) (
       subst (λ (a : RwMode). Tracks model (watched highByte leftOpen) (coreOf (writeAt a (c .load .«load_state») c byte defer))) (sym access)
       (completing (byte * 256) 0 (c .load .«load_state») (omega arith) (omega arith) (λ both waits. high-not (sym access ∙ both))
       (ap (λ (a : RwMode). firstOf a (c .load .«load_state») (byte * 256)) access)
-      (cond (eqb mode 0) (lowered o) (outputOnCount mode o))
-      (one-byte (eqb mode 0) refl) (countOf 0 byte) (omega arith))
+      (cond (eqb mode 0) o (outputOnCount mode o))
+      (one-byte (eqb mode 0)) (countOf 0 byte) (omega arith))
 
   second-writes : c .control .«rw_mode» ≡ LsbMsb → c .load .«load_state» ≡ WaitingForMsb → After lowThenHigh (fixedAt (c .load .«count_register» % 256))
   unfolding writeByte

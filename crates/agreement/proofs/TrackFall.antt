@@ -1,11 +1,14 @@
 -- G0 to G5, going low, in step with the sheets' counter. Assumes nothing.
 use Prim.Native.Nat.{ℕ}
 use mathlib.Core.Bool.{Bool, true, false, true≢false, false≢true, cond}
+use mathlib.Core.Logic.{inl, inr, ⊎-elim}
+use lib.Dec.{eqb}
 use mathlib.Core.Path.{_≡_, refl, sym, ap, _∙_, subst}
 use Rattle.channel.specs.declared.Channel.{Channel}
 use Rattle.channel.specs.declared.ChannelMode.{ChannelMode}
 use Rattle.channel.specs.declared.ChannelMode.the-variants.{InterruptOnTerminalCount, HardwareRetriggerableOneShot, RateGenerator, SquareWaveGenerator, SoftwareTriggeredStrobe, HardwareTriggeredStrobe}
 use Rattle.channel.specs.declared.ChannelState.{ChannelState}
+use Rattle.channel.specs.declared.ChannelState.the-variants.{WaitingForLoadTrigger}
 use Rattle.channel.specs.declared.LoadType.{LoadType}
 use Rattle.channel.specs.declared.LoadType.the-variants.{InitialLoad, SubsequentLoad}
 use Rattle.channel.specs.declared.PitType.{PitType}
@@ -19,12 +22,13 @@ use Rattle.sheet.specs.Counter.{Fixed, leftOpen, fixedAt, Phase, awaitsCount, a
 use Rattle.sheet.specs.CounterGate.{gated}
 use Rattle.agreement.specs.Gating.{underway, goesOn}
 use Rattle.agreement.specs.Words.{sheetChip}
+use Rattle.tick.specs.Due.{triggered}
 use Rattle.agreement.specs.Watching.{watching, IsFixed, HoldsValue}
 use Rattle.agreement.proofs.Gate.{raises-agree}
 use Rattle.agreement.proofs.TrackSquare.{value-there}
-use Rattle.agreement.proofs.Tracking.{Core, coreOf, view, Halved, Rules, down, rate, square, paused, Standing, AwaitsCount, Loading, LostIn, PhaseAt, Tracks, tracked}
+use Rattle.agreement.proofs.Tracking.{Core, coreOf, view, Rules, down, rate, square, paused, Standing, AwaitsCount, AwaitsTrigger, Loading, Lost, PhaseAt, Tracks}
 use Rattle.agreement.proofs.GateCores.{gatedCore, fallState, level-core, fall-core, half-gated, lands}
-use Rattle.agreement.proofs.GateTables.{stops-raises, still-raises, loses-agree, started-loads, down-keeps-level, standing-not, waiting-not, is-zero, raised}
+use Rattle.agreement.proofs.GateTables.{quiet-fall, raised-holds, still-raises, started-loads, down-keeps-level, standing-not, waiting-not, is-zero, raised}
 use Rattle.agreement.proofs.TrackRise.{gateStep}
 
 module _ (model : PitType) (one : Fixed Bool) (v : Fixed ℕ) (c : Channel) (rules : Rules model one (coreOf c))
@@ -83,29 +87,29 @@ module _ (model : PitType) (one : Fixed Bool) (v : Fixed ℕ) (c : Channel) (rul
           by-raises true is = h .is-high is
           by-raises false is = output-is
 
-      loading-falls : (late : Bool) → Loading late (coreOf c) → (b : Bool) → gate.stopsOnFall (c .control .mode) ≡ b
+      -- a counter that is lost stays so
+      still-come : (b : Bool) (s : ChannelState) → waitsForReload s ≡ false → waitsForReload (fallState b s) ≡ false
+      still-come true s has = refl
+      still-come false s has = has
+
+      loading-falls : (late : Bool) → Loading late (coreOf c) → (b four : Bool) → raises ≡ b → eqb (modeNumber (c .control .mode)) 4 ≡ four
           → Tracks model
-          (watching
-          (cond b (standing (gated (view (coreOf c) loading o v) false loading fallenOutput) lost leftOpen leftOpen)
-          (gated (view (coreOf c) loading o v) false loading fallenOutput))
-          late one)
+          (watching (gated (view (coreOf c) loading o v) false (cond b awaitsTrigger (cond four lost loading)) fallenOutput) late one)
           (coreOf (gate.setGate c false))
-      loading-falls late h true stops =
+      loading-falls late h true four is mode =
           let acts = waiting-not late (c .counter .«channel_state») (c .control .mode) (h .waits) in
-          lost-from acts
-        where
-          lost-from : waitsForReload (c .counter .«channel_state») ≡ false
-              → Tracks model (watching (standing (gated (view (coreOf c) loading o v) false loading fallenOutput) lost leftOpen leftOpen) late one) (coreOf (gate.setGate c false))
-          lost-from acts =
-              subst (Tracks model (watching (standing (gated (view (coreOf c) loading o v) false loading fallenOutput) lost leftOpen leftOpen) late one)) (sym (acting acts))
-              (tracked lost leftOpen leftOpen late one refl
-              (record {
-                rules = record { masked = rules .masked; one-is = rules .one-is; rule-is = rules .rule-is; sixteen = rules .sixteen; half = subst Halved (acting acts) (half-gated model one v c rules value-is false) };
-                phase-is = rw (h .complete, stops) (λ other. refl);
-                output-is = tt;
-                value-is = tt;
-              }))
-      loading-falls late h false stops = quiet stops loading late (record { waits = h .waits; complete = h .complete })
+          let holds = raised-holds (c .control .mode) is in
+          falls acts awaitsTrigger late
+          (record {
+            waits = inr (ap underway (ap (λ (b : Bool). fallState b (c .counter .«channel_state»)) (holds .0)), (holds .1, refl));
+            complete = h .complete;
+          })
+      loading-falls late h false true is mode =
+          let acts = waiting-not late (c .counter .«channel_state») (c .control .mode) (h .waits) in
+          falls acts lost late
+          (record { complete = h .complete; come = λ other. still-come (gate.stopsOnFall (c .control .mode)) (c .counter .«channel_state») acts })
+      loading-falls late h false false is mode =
+          quiet (quiet-fall (c .control .mode) is mode) loading late (record { waits = h .waits; complete = h .complete })
 
       -- a count underway
       state-goes : (b : Bool) (s : ChannelState) → goesOn s ≡ true → goesOn (fallState b s) ≡ true
@@ -152,46 +156,37 @@ module _ (model : PitType) (one : Fixed Bool) (v : Fixed ℕ) (c : Channel) (rul
           })
       there-fallen n j (paused p) = absurd (true≢false (sym high ∙ p .gate-low))
 
-      -- a counter that is lost stays so
-      still-come : (b : Bool) (s : ChannelState) → waitsForReload s ≡ false → waitsForReload (fallState b s) ≡ false
-      still-come true s has = refl
-      still-come false s has = has
-
-      lost-acts : c .load .«load_type» ≡ SubsequentLoad → LostIn SubsequentLoad (coreOf c) → (late : Bool) → (c .control .mode ≡ InterruptOnTerminalCount → ⊥)
+      lost-acts : Lost (coreOf c) → (late : Bool) → (c .control .mode ≡ InterruptOnTerminalCount → ⊥)
           → Tracks model (watching (gated (view (coreOf c) lost o v) false lost fallenOutput) late one) (coreOf (gate.setGate c false))
-      lost-acts type has late other =
-          falls (has other) lost late
-          (rw type (λ o. still-come (gate.stopsOnFall (c .control .mode)) (c .counter .«channel_state») (has other)))
+      lost-acts h late other =
+          falls (h .come other) lost late
+          (record { complete = h .complete; come = λ o. still-come (gate.stopsOnFall (c .control .mode)) (c .counter .«channel_state») (h .come other) })
 
-      lost-falls : (t : LoadType) → c .load .«load_type» ≡ t → LostIn t (coreOf c) → (late : Bool) → (m : ChannelMode) → c .control .mode ≡ m
+      lost-falls : Lost (coreOf c) → (late : Bool) → (m : ChannelMode) → c .control .mode ≡ m
           → Tracks model (watching (gated (view (coreOf c) lost o v) false lost fallenOutput) late one) (coreOf (gate.setGate c false))
-      lost-falls InitialLoad type h late m mode =
-          subst (λ (b : Bool). Tracks model (watching (gated (view (coreOf c) lost o v) false lost (cond b (fixedAt true) o)) late one) (coreOf (gate.setGate c false)))
-          (sym (stops-raises (c .control .mode) (h .1)))
-          (lands model one v c rules value-is false (c .counter .«channel_state») (c .pins .output) lost o late (rw type h) output-is (level-core c false (ap waitsForReload (h .0))))
-      lost-falls SubsequentLoad type h late InterruptOnTerminalCount mode = quiet (ap gate.stopsOnFall mode) lost late (rw type h)
-      lost-falls SubsequentLoad type h late HardwareRetriggerableOneShot mode = lost-acts type h late (λ z. false≢true (ap is-zero (sym mode ∙ z)))
-      lost-falls SubsequentLoad type h late RateGenerator mode = lost-acts type h late (λ z. false≢true (ap is-zero (sym mode ∙ z)))
-      lost-falls SubsequentLoad type h late SquareWaveGenerator mode = lost-acts type h late (λ z. false≢true (ap is-zero (sym mode ∙ z)))
-      lost-falls SubsequentLoad type h late SoftwareTriggeredStrobe mode = lost-acts type h late (λ z. false≢true (ap is-zero (sym mode ∙ z)))
-      lost-falls SubsequentLoad type h late HardwareTriggeredStrobe mode = lost-acts type h late (λ z. false≢true (ap is-zero (sym mode ∙ z)))
+      lost-falls h late InterruptOnTerminalCount mode = quiet (ap gate.stopsOnFall mode) lost late (record { complete = h .complete; come = h .come })
+      lost-falls h late HardwareRetriggerableOneShot mode = lost-acts h late (λ z. false≢true (ap is-zero (sym mode ∙ z)))
+      lost-falls h late RateGenerator mode = lost-acts h late (λ z. false≢true (ap is-zero (sym mode ∙ z)))
+      lost-falls h late SquareWaveGenerator mode = lost-acts h late (λ z. false≢true (ap is-zero (sym mode ∙ z)))
+      lost-falls h late SoftwareTriggeredStrobe mode = lost-acts h late (λ z. false≢true (ap is-zero (sym mode ∙ z)))
+      lost-falls h late HardwareTriggeredStrobe mode = lost-acts h late (λ z. false≢true (ap is-zero (sym mode ∙ z)))
+
+      trigger-falls : AwaitsTrigger (coreOf c) → (late : Bool)
+          → Tracks model (watching (gated (view (coreOf c) awaitsTrigger o v) false awaitsTrigger fallenOutput) late one) (coreOf (gate.setGate c false))
+      trigger-falls h late =
+          ⊎-elim
+          (λ (waits : (c .counter .«channel_state» ≡ WaitingForLoadTrigger) × (triggered (c .control .mode) ≡ true)).
+          quiet (started-loads (c .control .mode) (waits .1) .1) awaitsTrigger late (record { waits = inl waits; complete = h .complete }))
+          (λ (held : (underway (c .counter .«channel_state») ≡ true) × ((doesRetrigger (c .control .mode) ≡ true) × (c .pins .gate ≡ false))).
+          absurd (true≢false (sym high ∙ held .1 .1)))
+          (h .waits)
 
       pub fall-tracks : (p : Phase) (late : Bool) → PhaseAt p late model (coreOf c)
           → Tracks model (gateStep true false (view (coreOf c) p o v) late one) (coreOf (gate.setGate c false))
       fall-tracks awaitsCount late h = count-falls late h
-      fall-tracks awaitsTrigger late h =
-          quiet (started-loads (c .control .mode) (h .starts) .1) awaitsTrigger late (record { waits = h .waits; starts = h .starts; complete = h .complete })
-      fall-tracks loading late h =
-          subst
-          (λ (b : Bool). Tracks model
-          (watching
-          (cond b (standing (gated (view (coreOf c) loading o v) false loading fallenOutput) lost leftOpen leftOpen)
-          (gated (view (coreOf c) loading o v) false loading fallenOutput))
-          late one)
-          (coreOf (gate.setGate c false)))
-          (sym (loses-agree (c .control .mode)))
-          (loading-falls late h (gate.stopsOnFall (c .control .mode)) refl)
+      fall-tracks awaitsTrigger late h = trigger-falls h late
+      fall-tracks loading late h = loading-falls late h raises (eqb (modeNumber (c .control .mode)) 4) refl refl
       fall-tracks (counting n j) late h =
           falls (standing-not model (coreOf c) n j (h .there)) (counting n j) late
           (record { complete = h .complete; at-least = h .at-least; at-most = h .at-most; there = there-fallen n j (h .there) })
-      fall-tracks lost late h = lost-falls (c .load .«load_type») refl h late (c .control .mode) refl
+      fall-tracks lost late h = lost-falls h late (c .control .mode) refl

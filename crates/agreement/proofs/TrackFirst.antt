@@ -21,7 +21,7 @@ use Rattle.sheet.specs.Counter.{Fixed, leftOpen, fixedAt, Phase, awaitsCount, a
 use Rattle.sheet.specs.CounterWrite.{lowered, outputOnFirst, complete}
 use Rattle.agreement.specs.Words.{sheetChip}
 use Rattle.agreement.specs.Watching.{watching, IsFixed}
-use Rattle.agreement.proofs.Tracking.{Core, coreOf, view, Rules, down, rate, square, paused, Standing, LostIn, PhaseAt, Holds, Tracks, tracked}
+use Rattle.agreement.proofs.Tracking.{Core, coreOf, view, Rules, down, rate, square, paused, Standing, PhaseAt, Holds, Tracks, tracked}
 
 -- the first byte of two
 abbrev pub begunCore : ℕ → Bool → Core → Core
@@ -84,16 +84,12 @@ module _ (model : PitType) (c : Core) (byte : ℕ) where
   there-begun n j (paused q) =
       paused (record { repeats = q .repeats; in-period = q .in-period; has-value = q .has-value; holds = q .holds; gate-low = q .gate-low })
 
-  lost-begun : (t : LoadType) → c .load .«load_type» ≡ t → LostIn t c → LostIn (c .load .«load_type») (begunCore byte false c)
-  lost-begun InitialLoad type h = rw type h
-  lost-begun SubsequentLoad type h = rw type h
-
   phase-begun : (p : Phase) (late : Bool) → PhaseAt p late model c → PhaseAt p late model (begunCore byte false c)
   phase-begun awaitsCount late h = record { waits = h .waits; none = h .none; is-high = h .is-high }
-  phase-begun awaitsTrigger late h = record { waits = h .waits; starts = h .starts; complete = h .complete }
+  phase-begun awaitsTrigger late h = record { waits = h .waits; complete = h .complete }
   phase-begun loading late h = record { waits = h .waits; complete = h .complete }
   phase-begun (counting n j) late h = record { complete = h .complete; at-least = h .at-least; at-most = h .at-most; there = there-begun n j (h .there) }
-  phase-begun lost late h = lost-begun (c .load .«load_type») refl h
+  phase-begun lost late h = record { complete = h .complete; come = h .come }
 
   module _ (one : Fixed Bool) (o : Fixed Bool) (v : Fixed ℕ) (p : Phase) (late : Bool) (h : Holds model p o v late one c) where
     rules-begun : (stops : Bool) → stopsOnLowByte (c .control .mode) ≡ stops → Rules model one (begunCore byte stops c)

@@ -125,7 +125,7 @@ count-rests c h =
     record { waits = h .waits; none = h .none; is-high = λ raises. high-rests (c .pins .output) (h .is-high raises) (c .control .mode) }
 
 pub trigger-rests : (c : Core) → AwaitsTrigger c → AwaitsTrigger (restedIn (c .state) c)
-trigger-rests c h = record { waits = h .waits; starts = h .starts; complete = h .complete }
+trigger-rests c h = record { waits = h .waits; complete = h .complete }
 
 down-rests : (c : Core) (n j : ℕ) → Down c n j → Down (restedIn (c .state) c) n j
 down-rests c n j h =

@@ -26,7 +26,7 @@ use Rattle.agreement.proofs.Square as wave
 use Rattle.agreement.proofs.SquareHeld.{held-not-one}
 use Rattle.agreement.proofs.SquarePlace.{halfTicks, Stands, high-there, since-there, stands-first, stands-on}
 use Rattle.agreement.proofs.SquareSet.{Set, At, value-loaded, load-at}
-use Rattle.agreement.proofs.SquareValue.{halfValue, loadedCount, waitsAtZero, begins}
+use Rattle.agreement.proofs.SquareValue.{halfValue, loadedCount, waitsAtZero, moves, begins}
 use Rattle.agreement.proofs.TickLoads.{LoadedAt, tick-loads}
 use Rattle.agreement.proofs.Tracking.{coreOf, Square, square, paused, Arrived}
 use borrow.Author.Tests.{ne-eqb}
@@ -62,7 +62,7 @@ module _ (model : PitType) (c : Channel) (mode : c .control .mode ≡ SquareWave
   module _ (n : ℕ) (least : 2 ≤ n) (most : n ≤ radixCounts (c .control .«bcd_mode»)) where
     -- where the next tick leaves a channel whose gate is high
     there : (j : ℕ) (high : Bool) (s : ℕ) → j < n → Stands n j high s → wave.In model (c .control .«bcd_mode») n least most high s (tick model c)
-        → waitsAtZero model (c .load .«reload_value») high ≡ waitsAtZero model n high → Arrived model (tick model c) n j
+        → (0 < halfValue (sheetChip model) n high s → waitsAtZero model (c .load .«reload_value») high ≡ waitsAtZero model n high) → Arrived model (tick model c) n j
     there j high s inside stands now alike =
         record {
           counts =
@@ -96,7 +96,7 @@ module _ (model : PitType) (c : Channel) (mode : c .control .mode ≡ SquareWave
     begun high written now =
         there (beginOf high n) high 0 (begins-inside high n least) (begins-there high n least)
         (wave.begun model (c .control .«bcd_mode») n least most high (tick model c) now)
-        (rw written (wave.waits-alike model (c .control .«bcd_mode») high n))
+        (λ some. rw written (wave.waits-alike model (c .control .«bcd_mode») high n))
 
     first-tick : due c ≡ Load → tick model c ≡ loadAt true c
     unfolding tick
@@ -153,7 +153,7 @@ module _ (model : PitType) (c : Channel) (mode : c .control .mode ≡ SquareWave
         there n least most (suc j) (now .high) (suc (now .age)) on
         (stands-on n j least (now .high) (now .age) (now .stands) inside)
         (wave.inside model (c .control .«bcd_mode») n least most (now .high) (now .age) c inside (now .alike) here)
-        (now .alike)
+        (λ some. now .alike (wave.some-left model n (now .high) _ _ (moves n least model (now .high) (now .age) inside)))
 
     pub reloads-square : suc (now .age) ≡ halfTicks (now .high) n → (m : ℕ) → 2 ≤ m → m ≤ radixCounts (c .control .«bcd_mode»)
         → c .load .«reload_value» ≡ held (c .control .«bcd_mode») m → Arrived model (tick model c) m (beginOf (not (now .high)) m)

@@ -1,6 +1,7 @@
 -- Every tick keeps the channel in step with the sheets' counter. Assumes nothing.
 use Prim.Native.Nat.{ℕ, suc, _+_, _<_, _≤_}
 use mathlib.Core.Bool.{Bool, true, false, false≢true, not, cond, _||_}
+use mathlib.Core.Logic.{⊎-elim}
 use mathlib.Core.Path.{_≡_, refl, sym, ap, _∙_, subst}
 use native.Mathlib.Nat.{mod-eq-of-lt}
 use native.Mathlib.Omega.{arith}
@@ -29,6 +30,7 @@ use Rattle.sheet.specs.Ticking.{highTicks, valueAfter, outputAfter, smallest}
 use Rattle.sheet.specs.Counter.{Fixed, leftOpen, fixedAt, Phase, awaitsCount, awaitsTrigger, loading, counting, lost, Counter}
 use Rattle.sheet.specs.CounterTick.{numberWritten, numberOf, toLoad, at, loadHalf, load, beginsLow, reloads, countTo, rest}
 use Rattle.agreement.specs.Words.{sheetChip}
+use Rattle.agreement.specs.Gating.{underway}
 use Rattle.agreement.specs.Watching.{Watch, watching, watchTick, IsFixed, HoldsValue}
 use Rattle.agreement.proofs.CountsDown.{countsDown, every-down}
 use Rattle.agreement.proofs.Idling.{state-stands, output-rests}
@@ -38,7 +40,7 @@ use Rattle.agreement.proofs.TrackDown.{loads-down, counts-down}
 use Rattle.agreement.proofs.TrackRate.{loads-rate, counts-rate, reloads-rate, begins-rate}
 use Rattle.agreement.proofs.TrackRest.{rests, put-off, count-rests, trigger-rests, down-counts-rest, paused-counts-rest, trigger-idle, deferred-due, held-idle, goes-idle}
 use Rattle.agreement.proofs.TrackSquare.{beginOf, loads-square, counts-square, reloads-square}
-use Rattle.agreement.proofs.Tracking.{coreOf, lastOf, view, Rules, Down, down, Rate, rate, Square, square, paused, Standing, Arrived, LoadDue, Loading, Counts, LostIn, PhaseAt, Holds, Tracks, not-yet, tracked}
+use Rattle.agreement.proofs.Tracking.{coreOf, lastOf, view, Rules, Down, down, Rate, rate, Square, square, paused, Standing, Arrived, LoadDue, Loading, Counts, Lost, PhaseAt, Holds, Tracks, not-yet, tracked}
 use Rattle.agreement.proofs.Waiting.{reload-idle}
 use Rattle.agreement.proofs.Written.{Writes, number-writes, legal-number}
 
@@ -130,10 +132,15 @@ module _ (model : PitType) (c : Channel) (one : Fixed Bool) (rules : Rules model
       (record { rules = rules-then; phase-is = there; output-is = output; value-is = rw (keeps .control-kept) value })
 
   -- a counter that the sheets have lost
-  come : c .load .«load_type» ≡ SubsequentLoad → waitsForReload (c .counter .«channel_state») ≡ false → LostIn (tick model c .load .«load_type») (coreOf (tick model c))
-  come complete has = rw (keeps .load-type-kept ∙ complete) (λ other. still-come model c has)
+  come : c .load .«load_type» ≡ SubsequentLoad → ((c .control .mode ≡ InterruptOnTerminalCount → ⊥) → waitsForReload (c .counter .«channel_state») ≡ false)
+      → Lost (coreOf (tick model c))
+  come complete has =
+      record {
+        complete = keeps .load-type-kept ∙ complete;
+        come = λ other. still-come model c (has (λ mode. other (rw (keeps .control-kept) mode)));
+      }
 
-  strays : LostIn (tick model c .load .«load_type») (coreOf (tick model c))
+  strays : Lost (coreOf (tick model c))
       → Tracks model (watching (view (coreOf c) lost leftOpen leftOpen) false one) (coreOf (tick model c))
   strays there = settle lost leftOpen leftOpen false there tt tt
 
@@ -160,7 +167,7 @@ module _ (model : PitType) (c : Channel) (one : Fixed Bool) (rules : Rules model
         → Arrived model (tick model c) n (cond low (highTicks n) 0))
         → (x : Fixed ℕ) → toLoad (view (coreOf c) p o v) ≡ x
         → Tracks model (watching (loadHalf (sheetChip model) low x (view (coreOf c) p o v)) false one) (coreOf (tick model c))
-    load-by low p o v has arrives leftOpen is = strays (come complete has)
+    load-by low p o v has arrives leftOpen is = strays (come complete (λ other. has))
     load-by low p o v has arrives (fixedAt n) is =
         let t = taken n p o v is in
         stands n (cond low (highTicks n) 0) (arrives n (t .0) (t .1)) p o v
@@ -287,14 +294,6 @@ module _ (model : PitType) (c : Channel) (one : Fixed Bool) (rules : Rules model
     counting-tick =
         subst (λ (b : Bool). Then (cond b on (rest counter))) (sym (counts-runs (c .pins .gate) (c .control .mode))) (counting-by (h .there))
 
-  -- a lost counter
-  lost-in : (t : LoadType) → c .load .«load_type» ≡ t → LostIn t (coreOf c) → LostIn (tick model c .load .«load_type») (coreOf (tick model c))
-  lost-in InitialLoad type waits =
-      rw (keeps .load-type-kept ∙ type) (state-stands model c (reload-idle c (waits .0)) 1 ∙ waits .0, rw (keeps .control-kept) (waits .1))
-  lost-in SubsequentLoad type has =
-      rw (keeps .load-type-kept ∙ type)
-      (λ other. still-come model c (has (λ mode. other (rw (keeps .control-kept) mode))))
-
   loading-by : (late : Bool) (o : Fixed Bool) (v : Fixed ℕ) → Holds model loading o v late one (coreOf c) → Loading late (coreOf c)
       → Tracks model (watchTick (sheetChip model) (watching (view (coreOf c) loading o v) late one)) (coreOf (tick model c))
   loading-by true o v holds l =
@@ -308,10 +307,16 @@ module _ (model : PitType) (c : Channel) (one : Fixed Bool) (rules : Rules model
   phase-ticks awaitsCount o v late h =
       rests model o v one c awaitsCount late h (reload-idle c (h .phase-is .waits)) (count-rests (coreOf c) (h .phase-is))
   phase-ticks awaitsTrigger o v late h =
-      rests model o v one c awaitsTrigger late h (trigger-idle c (h .phase-is .waits) (h .phase-is .starts)) (trigger-rests (coreOf c) (h .phase-is))
+      rests model o v one c awaitsTrigger late h
+      (⊎-elim
+      (λ (waits : (c .counter .«channel_state» ≡ WaitingForLoadTrigger) × (triggered (c .control .mode) ≡ true)). trigger-idle c (waits .0) (waits .1))
+      (λ (held : (underway (c .counter .«channel_state») ≡ true) × ((doesRetrigger (c .control .mode) ≡ true) × (c .pins .gate ≡ false))).
+      held-idle c (held .0) (low-holds c (held .1 .0) (held .1 .1)))
+      (h .phase-is .waits))
+      (trigger-rests (coreOf c) (h .phase-is))
   phase-ticks loading o v late h = loading-by late o v h (h .phase-is)
   phase-ticks (counting n j) o v late h = counting-tick n j o v late (h .phase-is) h
-  phase-ticks lost o v late h = strays (lost-in (c .load .«load_type») refl (h .phase-is))
+  phase-ticks lost o v late h = strays (come (h .phase-is .complete) (h .phase-is .come))
 
 pub tick-tracks : (model : PitType) (w : Watch) (c : Channel) → Tracks model w (coreOf c) → Tracks model (watchTick (sheetChip model) w) (coreOf (tick model c))
 tick-tracks model w c (not-yet one is rule) =

@@ -1,6 +1,7 @@
 -- When the sheets' counter and a channel's record stand at one place: the relation that every call keeps. Assumes nothing.
 use Prim.Native.Nat.{ℕ, _%_, _<_, _≤_}
 use mathlib.Core.Bool.{Bool, true, false}
+use mathlib.Core.Logic.{_⊎_}
 use mathlib.Core.Path.{_≡_}
 use lib.Dec.{ltb}
 use Rattle.numbers.specs.Radix.{radixCounts}
@@ -131,7 +132,7 @@ pub record Square (model : PitType) (c : Core) (n j : ℕ) : Type 0 where
   pub level : c .pins .output ≡ high
   pub counts : c .state ≡ Counting (flagOf (halfValue (sheetChip model) n high age))
   pub gate-high : c .pins .gate ≡ true
-  pub alike : waitsAtZero model (c .load .«reload_value») high ≡ waitsAtZero model n high
+  pub alike : 0 < halfValue (sheetChip model) n high age → waitsAtZero model (c .load .«reload_value») high ≡ waitsAtZero model n high
 
 -- modes 2 and 3, whose gate is low
 pub record Paused (model : PitType) (c : Core) (n j : ℕ) : Type 0 where
@@ -154,9 +155,14 @@ pub record AwaitsCount (c : Core) : Type 0 where
   pub none : (c .control .mode ≡ InterruptOnTerminalCount → ⊥) → c .load .«load_type» ≡ InitialLoad
   pub is-high : fallEffect (modeNumber (c .control .mode)) .raises ≡ true → c .pins .output ≡ true
 
+-- a trigger is waited for in modes 1 and 5, and in modes 2 and 3 with the gate low, where a load was put off to it (S2)
+abbrev pub TriggerAwaited : Core → Type 0
+TriggerAwaited c =
+    ((c .state ≡ WaitingForLoadTrigger) × (triggered (c .control .mode) ≡ true))
+    ⊎ ((underway (c .state) ≡ true) × ((doesRetrigger (c .control .mode) ≡ true) × (c .pins .gate ≡ false)))
+
 pub record AwaitsTrigger (c : Core) : Type 0 where
-  pub waits : c .state ≡ WaitingForLoadTrigger
-  pub starts : triggered (c .control .mode) ≡ true
+  pub waits : TriggerAwaited c
   pub complete : c .load .«load_type» ≡ SubsequentLoad
 
 -- a load that the next tick makes: 01's waiting state, or in mode 4 the state that waits for a trigger
@@ -189,17 +195,16 @@ pub record Arrived (model : PitType) (c : Channel) (n j : ℕ) : Type 0 where
   pub shows-value : c .counter .«counting_element»
       ≡ held (c .control .«bcd_mode») (valueAfter (sheetChip model) (c .control .«bcd_mode») (modeNumber (c .control .mode)) n j)
 
--- whether a count has come
-abbrev pub LostIn : LoadType → Core → Type 0
-LostIn InitialLoad c = (c .state ≡ WaitingForReload) × (fallEffect (modeNumber (c .control .mode)) .stops ≡ false)
-LostIn SubsequentLoad c = (c .control .mode ≡ InterruptOnTerminalCount → ⊥) → waitsForReload (c .state) ≡ false
+pub record Lost (c : Core) : Type 0 where
+  pub complete : c .load .«load_type» ≡ SubsequentLoad
+  pub come : (c .control .mode ≡ InterruptOnTerminalCount → ⊥) → waitsForReload (c .state) ≡ false
 
 abbrev pub PhaseAt : Phase → Bool → PitType → Core → Type 0
 PhaseAt awaitsCount late model c = AwaitsCount c
 PhaseAt awaitsTrigger late model c = AwaitsTrigger c
 PhaseAt loading late model c = Loading late c
 PhaseAt (counting n j) late model c = Counts model c n j
-PhaseAt lost late model c = LostIn (c .load .«load_type») c
+PhaseAt lost late model c = Lost c
 
 pub record Holds (model : PitType) (p : Phase) (o : Fixed Bool) (v : Fixed ℕ) (late : Bool) (one : Fixed Bool) (c : Core) : Type 0 where
   pub rules : Rules model one c

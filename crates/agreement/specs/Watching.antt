@@ -1,16 +1,17 @@
 -- The sheets' counter (crates/sheet/specs/Counter.antt) beside a channel of ours, with what docs/DIFFERENCES.md lists put in: where the board departs from the sheets,
 -- the counter is told so, in the sheets' words and the programmer's. What it says after that is proved of the board (crate waveform).
-use Prim.Native.Nat.{ℕ, _%_}
+use Prim.Native.Nat.{ℕ, suc, _-_, _%_}
 use mathlib.Core.Bool.{Bool, true, false, not, cond, _&&_, _||_}
 use mathlib.Core.Path.{_≡_}
-use lib.Dec.{eqb}
+use lib.Dec.{eqb, ltb}
+use Rattle.numbers.specs.Radix.{radixCounts}
 use Rattle.channel.specs.declared.Channel.{Channel}
 use Rattle.sheet.specs.ControlByte.{Access, lowByte, highByte, lowThenHigh}
 use Rattle.sheet.specs.Gate.{fallEffect, riseEffect}
-use Rattle.sheet.specs.Ticking.{Chip, chip8253, chip8254, held, squareHigh}
+use Rattle.sheet.specs.Ticking.{Chip, chip8253, chip8254, held, highTicks, squareHigh}
 use Rattle.sheet.specs.Counter.{Fixed, leftOpen, fixedAt, Phase, awaitsCount, awaitsTrigger, loading, counting, lost, Counter, standing, programmed}
-use Rattle.sheet.specs.CounterTick.{rest, nowhere, tick}
-use Rattle.sheet.specs.CounterWrite.{lowered, write}
+use Rattle.sheet.specs.CounterTick.{rest, tick}
+use Rattle.sheet.specs.CounterWrite.{onCount, write}
 use Rattle.sheet.specs.CounterGate.{gateTo}
 
 -- What is known of a channel: nothing but its gate before the mode set (C5); from there on the sheets' counter, and whether the load that is due comes one tick
@@ -47,18 +48,25 @@ abbrev pub watchTick : Chip → Watch → Watch
 watchTick chip (unprogrammed gate one) = unprogrammed gate one
 watchTick chip (watching k late one) = watching (tickLate (k .phase) late chip k) false one
 
--- S2, S3: "a load that is due when the gate falls" in modes 2, 3 and 4 is put off or forgotten
-abbrev pub losesLoad : ℕ → Phase → Bool
-losesLoad mode loading = fallEffect mode .stops && not (eqb mode 0)
-losesLoad mode awaitsCount = false
-losesLoad mode awaitsTrigger = false
-losesLoad mode (counting n j) = false
-losesLoad mode lost = false
+-- S2: in modes 2 and 3 "a load that is due when the gate falls comes only after the next trigger". S3: in mode 4 it is forgotten
+abbrev pub afterFall : ℕ → Phase → Phase
+afterFall mode loading = cond (fallEffect mode .raises) awaitsTrigger (cond (eqb mode 4) lost loading)
+afterFall mode awaitsCount = awaitsCount
+afterFall mode awaitsTrigger = awaitsTrigger
+afterFall mode (counting n j) = counting n j
+afterFall mode lost = lost
 
-abbrev pub fallen : Bool → Bool → Counter → Counter → Counter
-fallen true false k new = cond (losesLoad (k .mode) (k .phase)) (standing new lost leftOpen leftOpen) new
-fallen true true k new = new
-fallen false level k new = new
+-- S6: a trigger before the count "is ignored"
+abbrev pub unlessEarly : Fixed ℕ → Phase → Phase → Phase
+unlessEarly leftOpen old new = old
+unlessEarly (fixedAt w) old new = new
+
+-- the counter with a level at its gate, the departures put in
+abbrev pub edged : Bool → Bool → Counter → Counter → Counter
+edged true false k new = standing new (afterFall (k .mode) (k .phase)) (new .output) (new .value)
+edged false true k new = standing new (unlessEarly (k .count) (k .phase) (new .phase)) (new .output) (new .value)
+edged true true k new = new
+edged false false k new = new
 
 -- a trigger's load is not late
 abbrev pub lateAfter : Bool → Bool → ℕ → Bool → Bool
@@ -68,7 +76,7 @@ lateAfter true level mode late = late
 
 abbrev pub watchGate : Watch → Bool → Watch
 watchGate (unprogrammed gate one) level = unprogrammed level one
-watchGate (watching k late one) level = watching (fallen (k .gate) level k (gateTo k level)) (lateAfter (k .gate) level (k .mode) late) one
+watchGate (watching k late one) level = watching (edged (k .gate) level k (gateTo k level)) (lateAfter (k .gate) level (k .mode) late) one
 
 -- the byte completes a count
 abbrev pub completes : Access → Fixed ℕ → Bool
@@ -85,24 +93,46 @@ isFirst loading = false
 isFirst (counting n j) = false
 isFirst lost = false
 
-abbrev pub orElse : Bool → Fixed Bool → Bool
-orElse unknown leftOpen = unknown
-orElse unknown (fixedAt known) = known
+abbrev pub unknown : Fixed Bool → Bool
+unknown leftOpen = true
+unknown (fixedAt known) = false
 
--- S5: "mode 5 set after any mode but 1 loads its first count without a trigger". S1 in mode 4, of its first count: one that was set after mode 1 puts nothing off, and
--- where it is not known which mode was set before, it is open which tick loads
-abbrev pub strays : Bool → ℕ → Phase → Fixed Bool → Bool
-strays defer mode p one =
-    isFirst p && ((eqb mode 5 && not (orElse false one)) || (eqb mode 4 && (defer && (orElse true one && not (orElse false one)))))
+abbrev pub isKnown : Fixed Bool → Bool → Bool
+isKnown leftOpen b = false
+isKnown (fixedAt true) b = b
+isKnown (fixedAt false) b = not b
 
--- S4: "on the 8254, if its parity differs, the running high half is one tick longer or shorter"
-abbrev pub disturbs : Chip → ℕ → Phase → ℕ → Bool
-disturbs chip8254 mode (counting n j) byte = eqb mode 3 && (squareHigh n j && not (eqb (n % 2) (byte % 2)))
-disturbs chip8254 mode awaitsCount byte = false
-disturbs chip8254 mode awaitsTrigger byte = false
-disturbs chip8254 mode loading byte = false
-disturbs chip8254 mode lost byte = false
-disturbs chip8253 mode p byte = false
+-- Where it is not known whether mode 1 was the last of modes 0 to 3: whether mode 5 waits for its trigger (S5), and with the defer flag set which tick loads in mode 4
+abbrev pub strays : Bool → ℕ → Fixed Bool → Bool
+strays defer mode one = unknown one && (eqb mode 5 || (eqb mode 4 && defer))
+
+-- S5: mode 5, unless mode 1 was the last of modes 0 to 3, "loads its first count without a trigger"
+abbrev pub untriggered : ℕ → Fixed Bool → Bool
+untriggered mode one = eqb mode 5 && isKnown one false
+
+abbrev pub firstPhase : Bool → ℕ → Fixed Bool → Phase
+firstPhase defer mode one = cond (strays defer mode one) lost (cond (untriggered mode one) loading (onCount mode awaitsCount))
+
+-- S4: "on the 8254, if its parity differs, the running high half is one tick longer or shorter": it lasts as long as that of the next count of the new parity. The
+-- largest count has none above it, and the last tick of an odd count's half comes all the same
+abbrev pub parts : Chip → Bool
+parts chip8253 = false
+parts chip8254 = true
+
+abbrev pub disturbs : Chip → ℕ → ℕ → ℕ → ℕ → Bool
+disturbs chip mode n j low = parts chip && (eqb mode 3 && (squareHigh n j && not (eqb (n % 2) (low % 2))))
+
+abbrev pub otherHalf : ℕ → ℕ → ℕ → Phase
+otherHalf largest n j =
+    cond (eqb (n % 2) 0) (cond (eqb n largest) lost (counting (suc n) j)) (cond (ltb (suc j) (highTicks n)) (counting (n - 1) j) (counting n j))
+
+-- where a complete count leads, its lowest bit being that of the byte low
+abbrev pub countPhase : Chip → Bool → ℕ → Bool → Fixed Bool → ℕ → Phase → Phase
+countPhase chip defer mode bcd one low awaitsCount = firstPhase defer mode one
+countPhase chip defer mode bcd one low awaitsTrigger = onCount mode awaitsTrigger
+countPhase chip defer mode bcd one low loading = onCount mode loading
+countPhase chip defer mode bcd one low (counting n j) = cond (disturbs chip mode n j low) (otherHalf (radixCounts bcd) n j) (onCount mode (counting n j))
+countPhase chip defer mode bcd one low lost = onCount mode lost
 
 -- the byte that has the count's lowest bit
 abbrev pub lowOf : Access → Fixed ℕ → ℕ → ℕ
@@ -111,31 +141,26 @@ lowOf highByte first byte = 0
 lowOf lowThenHigh leftOpen byte = byte
 lowOf lowThenHigh (fixedAt low) byte = low
 
--- S7: in mode 0 "with one-byte access low with the tick that loads"
+-- S7: in mode 0 "with one-byte access low with the tick that loads", and as it was till then
 abbrev pub staysHigh : Access → ℕ → Bool
 staysHigh lowByte mode = eqb mode 0
 staysHigh highByte mode = eqb mode 0
 staysHigh lowThenHigh mode = false
 
-abbrev pub outputKept : Counter → Counter → Counter
-outputKept k new =
-    standing new (new .phase) (cond (staysHigh (k .access) (k .mode)) (lowered (k .output)) (new .output)) (new .value)
-
 -- a byte written, the departures put in
-abbrev pub written : Chip → Bool → Fixed Bool → Counter → ℕ → Counter
-written chip defer one k byte =
-    cond
-    (completes (k .access) (k .first)
-    && (strays defer (k .mode) (k .phase) one || disturbs chip (k .mode) (k .phase) (lowOf (k .access) (k .first) byte)))
-    (nowhere (write chip k byte))
-    (outputKept k (write chip k byte))
+abbrev pub written : Chip → Bool → Fixed Bool → Counter → ℕ → Counter → Counter
+written chip defer one k byte new =
+    standing new
+    (cond (completes (k .access) (k .first)) (countPhase chip defer (k .mode) (k .bcd) one (lowOf (k .access) (k .first) byte) (k .phase)) (new .phase))
+    (cond (staysHigh (k .access) (k .mode)) (k .output) (new .output))
+    (new .value)
 
--- S1: a write that makes a load due makes it late where the defer flag is set
+-- S1: a write that makes a load due makes it late where the defer flag is set; not the first count of mode 4 after mode 1
 abbrev pub makesDue : ℕ → Phase → Bool
 makesDue mode p = eqb mode 0 || (eqb mode 4 || isFirst p)
 
 abbrev pub putsOff : Bool → ℕ → Phase → Fixed Bool → Bool
-putsOff defer mode p one = defer && not (eqb mode 4 && (isFirst p && orElse false one))
+putsOff defer mode p one = defer && not (eqb mode 4 && (isFirst p && isKnown one true))
 
 abbrev pub lateBy : Bool → Fixed Bool → Counter → Bool → Bool
 lateBy defer one k late =
@@ -143,19 +168,32 @@ lateBy defer one k late =
 
 abbrev pub watchWrite : Chip → Bool → Watch → ℕ → Watch
 watchWrite chip defer (unprogrammed gate one) byte = unprogrammed gate one
-watchWrite chip defer (watching k late one) byte = watching (written chip defer one k byte) (lateBy defer one k late) one
+watchWrite chip defer (watching k late one) byte = watching (written chip defer one k byte (write chip k byte)) (lateBy defer one k late) one
 
--- Counts and load cycles made by hand are not the chip's: where the counter stands is not known any more. Before the load they do not matter to it
-abbrev pub strayed : Phase → Phase
-strayed awaitsCount = awaitsCount
-strayed awaitsTrigger = awaitsTrigger
-strayed loading = lost
-strayed (counting n j) = lost
-strayed lost = lost
+-- Counts made by hand are not the chip's: the value is not known any more, and from a counter that counts neither is its place. A load that is due comes all the same
+abbrev pub miscounted : Phase → Phase
+miscounted awaitsCount = awaitsCount
+miscounted awaitsTrigger = awaitsTrigger
+miscounted loading = loading
+miscounted (counting n j) = lost
+miscounted lost = lost
 
-abbrev pub watchHand : Watch → Watch
-watchHand (unprogrammed gate one) = unprogrammed gate one
-watchHand (watching k late one) = watching (standing k (strayed (k .phase)) (k .output) leftOpen) late one
+abbrev pub watchCounts : Watch → ℕ → Watch
+watchCounts (unprogrammed gate one) number = unprogrammed gate one
+watchCounts (watching k late one) number =
+    cond (eqb number 0) (watching k late one) (watching (standing k (miscounted (k .phase)) (k .output) leftOpen) late one)
+
+-- A load cycle by hand takes a load that is due, or makes it due where it was late; elsewhere it does nothing (01: "Other states: no change")
+abbrev pub cycled : Phase → Bool → Counter → Counter
+cycled loading late k = cond late k (standing k lost (k .output) leftOpen)
+cycled awaitsCount late k = k
+cycled awaitsTrigger late k = k
+cycled (counting n j) late k = k
+cycled lost late k = standing k lost (k .output) leftOpen
+
+abbrev pub watchCycle : Watch → Watch
+watchCycle (unprogrammed gate one) = unprogrammed gate one
+watchCycle (watching k late one) = watching (cycled (k .phase) late k) false one
 
 -- what is fixed is so: a level, and a value as the counter holds it
 abbrev pub IsFixed : {A : Type 0} → Fixed A → A → Type 0

@@ -2,6 +2,7 @@
 use Prim.Native.Nat.{ℕ, zero, suc, _<_}
 use mathlib.Core.Bool.{true, false}
 use mathlib.Core.List.{List, [], _∷_}
+use mathlib.Core.Logic.{⊎-elim}
 use mathlib.Core.Path.{_≡_, refl, sym, subst}
 use native.Mathlib.Omega.{arith}
 use lib.ListN.{length}
@@ -23,7 +24,7 @@ use Rattle.sheet.specs.Counter.{leftOpen, fixedAt}
 use Rattle.agreement.specs.Watching.{Watch, unprogrammed, ShowsIn}
 use Rattle.agreement.proofs.Tracking.{coreOf, Tracks, not-yet, tracked}
 use Rattle.waveform.specs.Heard.{unlessRefused, heard, hears, watchOver, IsByte, AllBytes}
-use Rattle.waveform.specs.Follows.{Follows, FollowsFresh}
+use Rattle.waveform.specs.Follows.{AnyBoard, NewBoard, Follows}
 use Rattle.waveform.proofs.Turns.{turn}
 
 -- one call, accepted or refused
@@ -34,7 +35,7 @@ call-tracks b three i on w now o small =
     (λ number e. subst (λ (d : Board). Tracks (b .model) w (coreOf (channelAt d i))) (sym (refused-leaves b o number e .0)) now)
     (λ value e. turn b three i on w now o small value e)
 
-pub calls-track : (b : Board) → length (b .channels) ≡ 3 → (i : ℕ) → i < 3 → (w : Watch) → Tracks (b .model) w (coreOf (channelAt b i))
+calls-track : (b : Board) → length (b .channels) ≡ 3 → (i : ℕ) → i < 3 → (w : Watch) → Tracks (b .model) w (coreOf (channelAt b i))
     → (os : List Operation) → AllBytes os → Tracks (b .model) (watchOver i b os w) (coreOf (channelAt (steps b os) i))
 calls-track b three i on w now [] small = now
 calls-track b three i on w now (o ∷ os) small =
@@ -51,11 +52,6 @@ shows model w c (not-yet one is rule) = subst (λ (x : Watch). ShowsIn x c) (sym
 shows model w c (tracked p o v late one is h) =
     subst (λ (x : Watch). ShowsIn x c) (sym is) (record { shows-output = h .output-is; shows-value = h .value-is })
 
-pub follows : Follows
-follows b three i on os small =
-    shows (b .model) (watchOver i b os (unprogrammed (channelAt b i .pins .gate) leftOpen)) (channelAt (steps b os) i)
-    (calls-track b three i on (unprogrammed (channelAt b i .pins .gate) leftOpen) (not-yet leftOpen refl tt) os small)
-
 fresh-at : (model : PitType) (divisor i : ℕ) → i < 3 → channelAt (fresh model divisor) i ≡ channel.fresh
 unfolding fresh
 fresh-at model divisor zero on = refl
@@ -67,15 +63,27 @@ fresh-tracks : (model : PitType) → Tracks model (unprogrammed true (fixedAt fa
 unfolding channel.freshAt
 fresh-tracks model = not-yet (fixedAt false) refl refl
 
-fresh-model : (model : PitType) (divisor : ℕ) → fresh model divisor .model ≡ model
-unfolding fresh
-fresh-model model divisor = refl
+-- what is known before the calls is so
+record Begun (b : Board) (i : ℕ) (w : Watch) : Type 0 where
+  three : length (b .channels) ≡ 3
+  tracks : Tracks (b .model) w (coreOf (channelAt b i))
 
-pub follows-fresh : FollowsFresh
-follows-fresh model divisor i on os small =
-    shows (fresh model divisor .model) (watchOver i (fresh model divisor) os (unprogrammed true (fixedAt false))) (channelAt (steps (fresh model divisor) os) i)
-    (calls-track (fresh model divisor) (fresh-three model divisor) i on (unprogrammed true (fixedAt false))
-    (subst (λ (c : Channel). Tracks (fresh model divisor .model) (unprogrammed true (fixedAt false)) (coreOf c)) (sym (fresh-at model divisor i on))
-    (fresh-tracks (fresh model divisor .model)))
-    os
-    small)
+begun-any : (b : Board) (i : ℕ) (w : Watch) → AnyBoard b i w → Begun b i w
+begun-any b i w start = record { three = start .0; tracks = not-yet leftOpen (start .1) tt }
+
+begun-new : (b : Board) (i : ℕ) (w : Watch) → i < 3 → NewBoard b w → Begun b i w
+begun-new b i w on start =
+    subst (λ (d : Board). Begun d i w) (sym (start .1 .1 .0))
+    (subst (Begun (fresh (start .0) (start .1 .0)) i) (sym (start .1 .1 .1))
+    (record {
+      three = fresh-three (start .0) (start .1 .0);
+      tracks =
+          subst (λ (c : Channel). Tracks (fresh (start .0) (start .1 .0) .model) (unprogrammed true (fixedAt false)) (coreOf c))
+          (sym (fresh-at (start .0) (start .1 .0) i on))
+          (fresh-tracks (fresh (start .0) (start .1 .0) .model));
+    }))
+
+pub follows : Follows
+follows b i w start on os small =
+    let h = ⊎-elim (begun-any b i w) (begun-new b i w on) start in
+    shows (b .model) (watchOver i b os w) (channelAt (steps b os) i) (calls-track b (h .three) i on w (h .tracks) os small)

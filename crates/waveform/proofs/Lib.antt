@@ -1,8 +1,11 @@
 pub mod Turns
 pub mod Follows
 pub mod Running
-pub mod Ticks
+pub mod Stages
+pub mod Written
+pub mod Pauses
+pub mod Pins
 pub mod Opening
 pub mod Pin
-pub mod Pauses
+pub mod Known
 pub mod Witness

@@ -1,11 +1,11 @@
--- From the port to the pin: what a channel shows j ticks after the load of a count that was written to it. Assumes nothing.
-use Prim.Native.Nat.{ℕ, suc, _+_, _<_, _≤_}
-use mathlib.Core.Bool.{Bool, true, false, not, cond, _&&_}
+-- From the port to the pin: what a channel shows after the opening, over all that its pins do. Assumes nothing.
+use Prim.Native.Nat.{ℕ, zero, suc, _+_, _<_, _≤_}
+use mathlib.Core.Bool.{Bool, true, false, not, cond, _&&_, _||_}
 use mathlib.Core.List.{List, [], _∷_, _++_}
+use mathlib.Core.Logic.{_⊎_, ⊎-elim}
 use mathlib.Core.Path.{_≡_, refl, sym, ap, _∙_, subst}
 use native.Mathlib.Omega.{arith}
 use lib.Dec.{eqb}
-use lib.ListN.{length}
 use borrow.Author.Tests.{eq-eqb, ne-eqb}
 use Rattle.numbers.specs.Times.{times}
 use Rattle.refusal.specs.Reply.{Reply}
@@ -19,24 +19,43 @@ use Rattle.board.specs.Board.{channelAt}
 use Rattle.board.specs.Outcome.{Value}
 use Rattle.step.specs.Operation.{Operation, WritePort}
 use Rattle.step.specs.Accepted.{IsAccepted, AllAccepted}
-use Rattle.step.specs.Owed.{allMade}
 use Rattle.step.specs.Step.{step, steps}
 use Rattle.step.specs.Time.{isTimeCall}
 use Rattle.step.proofs.Kept.{time-kept, settings-kept}
 use Rattle.sheet.specs.ControlByte.{Access, lowByte, highByte, lowThenHigh, Request, program, requestOf}
+use Rattle.sheet.specs.Gate.{fallEffect, riseEffect}
 use Rattle.sheet.specs.Output.{outputAfterModeSet}
-use Rattle.sheet.specs.Ticking.{Chip, held, valueAfter, smallest}
-use Rattle.sheet.specs.Counter.{Fixed, leftOpen, fixedAt, awaitsCount, loading, Counter, programmed}
+use Rattle.sheet.specs.Ticking.{Chip, held, downValue, highFrom, valueAfter, outputAfter, smallest}
+use Rattle.sheet.specs.Counter.{Fixed, leftOpen, fixedAt, awaitsCount, loading, counting, programmed}
 use Rattle.sheet.specs.CounterTick.{numberWritten, legal, at}
 use Rattle.agreement.specs.Words.{sheetChip}
-use Rattle.agreement.specs.Watching.{Watch, unprogrammed, watching, oneNow, watchProgram, watchTick, watchGate, watchWrite, strays, putsOff, ShowsIn}
+use Rattle.agreement.specs.Watching.{Watch, unprogrammed, watching, oneNow, watchProgram, watchTick, watchGate, watchWrite, putsOff, ShowsIn}
 use Rattle.agreement.proofs.Written.{legal-number}
+use Rattle.waveform.specs.Follows.{Starts}
 use Rattle.waveform.specs.Heard.{heardControl, heard, unlessRefused, hears, watchOver, AllBytes}
-use Rattle.waveform.specs.Pin.{bytesIn, writtenIn, triggered, gateCall, byteCalls, triggerCalls, opening, AllOnlyTicks, afterOne, laterTicks, AtThePin, PortToPin}
+use Rattle.waveform.specs.Opened.{bytesIn, writtenIn, triggered, gateCall, byteCalls, triggerCalls, opening, afterOne, laterTicks, Opened, before, after, lateTicks}
+use Rattle.waveform.specs.Pin.{AtThePin, pausedOutput, PortToPin, GatePauses, TriggerRestarts, FallHolds}
+use Rattle.waveform.specs.Pins.{Pulse, gateAt, clock, clocks, pinsOver, pulsed, clocksIn, lastLevel, Undisturbed, highClocks, lastCounted}
 use Rattle.waveform.proofs.Follows.{follows}
-use Rattle.waveform.proofs.Opening.{bytesHeard, triggerHeard, openingHeard, raised, same-one, starts, opened, pinned}
-use Rattle.waveform.proofs.Running.{placeOf, output-place, value-place}
-use Rattle.waveform.proofs.Ticks.{over-ticks, over-both, steps-both, bytes-both}
+use Rattle.waveform.proofs.Opening.{bytesHeard, triggerHeard, openingHeard, raised, same-one, starts, opened}
+use Rattle.waveform.proofs.Pauses.{paused, either-pauses, load-output, load-value, held-by}
+use Rattle.waveform.proofs.Pins.{pulsed-both, over-pins}
+use Rattle.waveform.proofs.Running.{placeOf, output-place, value-place, first-place}
+use Rattle.waveform.proofs.Stages.{Stage, due, run, next, run-after, late-after, Wanted, counter, running, IsAt, stages}
+use Rattle.waveform.proofs.Written.{Written, written-on}
+
+-- one list after another
+over-both : (i : ℕ) (b : Board) (os ps : List Operation) (w : Watch) → watchOver i b (os ++ ps) w ≡ watchOver i (steps b os) ps (watchOver i b os w)
+over-both i b [] ps w = refl
+over-both i b (o ∷ os) ps w = over-both i (step b o .board) os ps (hears i b o w)
+
+steps-both : (b : Board) (os ps : List Operation) → steps b (os ++ ps) ≡ steps (steps b os) ps
+steps-both b [] ps = refl
+steps-both b (o ∷ os) ps = steps-both (step b o .board) os ps
+
+bytes-both : (os ps : List Operation) → AllBytes os → AllBytes ps → AllBytes (os ++ ps)
+bytes-both [] ps small others = others
+bytes-both (o ∷ os) ps small others = (small .0, bytes-both os ps (small .1) others)
 
 -- an accepted call is heard
 taken : (i : ℕ) (b : Board) (o : Operation) (w : Watch) → IsAccepted b o → hears i b o w ≡ heard i b o w
@@ -149,103 +168,231 @@ set-high w access mode bcd =
 above-zero : (m : ChannelMode) (n : ℕ) → smallest (modeNumber m) ≤ n → 0 < n
 above-zero m n = every-mode (λ (x : ChannelMode). smallest (modeNumber x) ≤ n → 0 < n) (λ l. omega arith) (λ l. omega arith) (λ l. omega arith) (λ l. omega arith) (λ l. omega arith) (λ l. omega arith) m
 
-module _ (b : Board) (three : length (b .channels) ≡ 3) (i : ℕ) (on : i < 3) (earlier : List Operation) (small : AllBytes earlier)
-    (control : ℕ) (byte : control < 256) (access : Access) (m : ChannelMode) (bcd : Bool) (is : requestOf control ≡ program i access (modeNumber m) bcd)
-    (low high : ℕ) (low-byte : low < 256) (high-byte : high < 256) (n : ℕ) (number : legal (modeNumber m) (numberWritten bcd (writtenIn access low high)) ≡ fixedAt n)
-    (events : List ℕ) (place : ℕ) where
+-- ticks alone
+clocks-in : (k : ℕ) → clocksIn (clocks k) ≡ k
+clocks-in zero = refl
+clocks-in (suc k) = ap suc (clocks-in k)
+
+clocks-steady : (stops gate : Bool) (k : ℕ) → Undisturbed stops gate (clocks k)
+clocks-steady stops gate zero = tt
+clocks-steady stops gate (suc k) = clocks-steady stops gate k
+
+clocks-level : (gate : Bool) (k : ℕ) → lastLevel gate (clocks k) ≡ gate
+clocks-level gate zero = refl
+clocks-level gate (suc k) = clocks-level gate k
+
+always-wanted : (stops : Bool) → Wanted stops true
+always-wanted true = refl
+always-wanted false = refl
+
+module _ (b : Board) (i : ℕ) (start : Watch) (from : Starts b i start) (on : i < 3) (m : ChannelMode) (bcd : Bool) (n : ℕ) (o : Opened b i start m bcd n)
+    (later : List Operation) (others : AllBytes later) (ps : List Pulse) (pins : pinsOver i (after b i start m bcd n o) later ≡ fixedAt ps) where
+  abbrev mode : ℕ
+  mode = modeNumber m
+
   abbrev now : Board
-  now = steps b earlier
+  now = before b i start m bcd n o
+
+  abbrev begun : Board
+  begun = after b i start m bcd n o
 
   abbrev calls : List Operation
-  calls = opening i events place control access (modeNumber m) low high
+  calls = opening i (o .events) (o .place) (o .control) (o .access) mode (o .low) (o .high)
 
-  abbrev before : Watch
-  before = watchOver i b earlier (unprogrammed (channelAt b i .pins .gate) leftOpen)
+  abbrev known : Watch
+  known = watchOver i b (o .earlier) start
 
   abbrev one : Fixed Bool
-  one = oneNow (modeNumber m) (afterOne before)
+  one = oneNow mode (afterOne known)
 
   abbrev chip : Chip
-  chip = sheetChip (now .model)
+  chip = sheetChip (b .model)
 
-  abbrev waits : Fixed Bool → Counter
-  waits o =
-      record {
-        access = access;
-        mode = modeNumber m;
-        bcd = bcd;
-        first = leftOpen;
-        count = fixedAt (writtenIn access low high);
-        gate = true;
-        phase = loading;
-        output = o;
-        value = leftOpen;
-      }
+  abbrev count : ℕ
+  count = writtenIn (o .access) (o .low) (o .high)
 
-  -- the counter after the opening
-  opens : strays (now .defer) (modeNumber m) awaitsCount one ≡ false → AllAccepted now calls
-      → (o : Fixed Bool) × (watchOver i now calls before ≡ watching (waits o) (not (triggered (modeNumber m)) && putsOff (now .defer) (modeNumber m) awaitsCount one) one)
-  opens fine took =
-      let o = opened chip (now .defer) m bcd one fine access low high (fixedAt (outputAfterModeSet (modeNumber m))) in (
-        o .0,
-        over-opening i on events place now control access (modeNumber m) bcd low high before is took
-            ∙ ap (λ (w : Watch). triggerHeard (triggered (modeNumber m)) (bytesHeard chip (now .defer) (bytesIn access low high) w)) (set-high before access (modeNumber m) bcd)
-            ∙ o .1,
+  same-chip : sheetChip (now .model) ≡ chip
+  same-chip = ap sheetChip (steps-model b (o .earlier))
+
+  least : smallest mode ≤ n
+  least = legal-number mode (numberWritten bcd count) n (o .number) .1
+
+  abbrev late : Bool
+  late = not (triggered mode) && putsOff (now .defer) mode awaitsCount one
+
+  abbrev At : Stage → Bool → Watch → Type 0
+  At = IsAt chip m bcd one (o .access) count n (o .number) least
+
+  -- the counter after the opening: a load is due
+  opens : At (due late) true (watchOver i now calls known)
+  opens =
+      let t = opened (sheetChip (now .model)) (now .defer) m bcd one (o .known) (o .access) (o .low) (o .high) (fixedAt (outputAfterModeSet mode)) in (
+        t .0,
+        (
+          leftOpen,
+          over-opening i on (o .events) (o .place) now (o .control) (o .access) mode bcd (o .low) (o .high) known (o .names) (o .took)
+              ∙ ap (λ (w : Watch). triggerHeard (triggered mode) (bytesHeard (sheetChip (now .model)) (now .defer) (bytesIn (o .access) (o .low) (o .high)) w))
+              (set-high known (o .access) mode bcd)
+              ∙ t .1,
+        ),
       )
 
-  all-small : (later : List Operation) → AllBytes later → AllBytes (earlier ++ (calls ++ later))
-  all-small later others =
-      bytes-both earlier (calls ++ later) small
+  abbrev opened-watch : Watch
+  opened-watch = watchOver i now calls known
+
+  all-small : AllBytes (o .earlier ++ (calls ++ later))
+  all-small =
+      bytes-both (o .earlier) (calls ++ later) (o .earlier-bytes)
       (bytes-both calls later (
         tt,
         (
-          byte,
-          bytes-both (byteCalls i events place (bytesIn access low high)) (triggerCalls i events place (triggered (modeNumber m)))
-              (small-bytes i on events place access low high low-byte high-byte) (small-trigger i on events place (triggered (modeNumber m))),
+          o .control-byte,
+          bytes-both (byteCalls i (o .events) (o .place) (bytesIn (o .access) (o .low) (o .high))) (triggerCalls i (o .events) (o .place) (triggered mode))
+              (small-bytes i on (o .events) (o .place) (o .access) (o .low) (o .high) (o .low-byte) (o .high-byte))
+              (small-trigger i on (o .events) (o .place) (triggered mode)),
         ),
       )
       others)
 
-  module _ (fine : strays (now .defer) (modeNumber m) awaitsCount one ≡ false) (took : AllAccepted now calls) (later : List Operation) (may : AllOnlyTicks i later)
-      (others : AllBytes later) (j : ℕ) (made : allMade (steps now calls) later ≡ suc (laterTicks (now .defer) (modeNumber m) one + j)) where
-    legal-one : (numberWritten bcd (writtenIn access low high) ≡ fixedAt n) × (smallest (modeNumber m) ≤ n)
-    legal-one = legal-number (modeNumber m) (numberWritten bcd (writtenIn access low high)) n number
+  watched : watchOver i b (o .earlier ++ (calls ++ later)) start ≡ pulsed chip opened-watch ps
+  watched =
+      over-both i b (o .earlier) (calls ++ later) start
+      ∙ over-both i now calls later known
+      ∙ over-pins i begun later ps pins opened-watch
+      ∙ ap (λ (c : Chip). pulsed c opened-watch ps) (ap sheetChip (steps-model now calls) ∙ same-chip)
 
-    abbrev level : Fixed Bool
-    level = opens fine took .0
+  ended : steps b (o .earlier ++ (calls ++ later)) ≡ steps begun later
+  ended = steps-both b (o .earlier) (calls ++ later) ∙ steps-both now calls later
 
-    watched : watchOver i b (earlier ++ (calls ++ later)) (unprogrammed (channelAt b i .pins .gate) leftOpen)
-        ≡ watching (at chip (waits level) n (placeOf (doesRetrigger m) n j)) false one
-    watched =
-        over-both i b earlier (calls ++ later) (unprogrammed (channelAt b i .pins .gate) leftOpen)
-        ∙ over-both i now calls later before
-        ∙ over-ticks i (steps now calls) later may (watchOver i now calls before)
-        ∙ ap (λ (model : PitType). times (allMade (steps now calls) later) (watchTick (sheetChip model)) (watchOver i now calls before)) (steps-model now calls)
-        ∙ ap (λ (k : ℕ). times k (watchTick chip) (watchOver i now calls before)) made
-        ∙ ap (times (suc (laterTicks (now .defer) (modeNumber m) one + j)) (watchTick chip)) (opens fine took .1)
-        ∙ pinned chip (now .defer) m bcd one fine access (writtenIn access low high) n level number (legal-one .1)
-        (not (triggered (modeNumber m)) && putsOff (now .defer) (modeNumber m) awaitsCount one) refl j
+  -- what the counter fixes is shown
+  shown : (x : Watch) → pulsed chip opened-watch ps ≡ x → ShowsIn x (channelAt (steps begun later) i)
+  shown x is =
+      subst (λ (w : Watch). ShowsIn w (channelAt (steps begun later) i)) (watched ∙ is)
+      (subst (λ (d : Board). ShowsIn (watchOver i b (o .earlier ++ (calls ++ later)) start) (channelAt d i)) ended
+      (follows b i start from on (o .earlier ++ (calls ++ later)) all-small))
 
-    ended : steps b (earlier ++ (calls ++ later)) ≡ steps (steps now calls) later
-    ended = steps-both b earlier (calls ++ later) ∙ steps-both now calls later
+  pos : 0 < n
+  pos = above-zero m n least
 
-    shown : ShowsIn (watching (at chip (waits level) n (placeOf (doesRetrigger m) n j)) false one) (channelAt (steps (steps now calls) later) i)
-    shown =
-        subst (λ (w : Watch). ShowsIn w (channelAt (steps (steps now calls) later) i)) watched
-        (subst (λ (d : Board). ShowsIn (watchOver i b (earlier ++ (calls ++ later)) (unprogrammed (channelAt b i .pins .gate) leftOpen)) (channelAt d i)) ended
-        (follows b three i on (earlier ++ (calls ++ later)) (all-small later others)))
+  -- the closed forms, j ticks after a load
+  running-shows : (j : ℕ) (gate : Bool) → At (run j) gate (pulsed chip opened-watch ps)
+      → AtThePin (steps begun later) i bcd (outputAfter mode n j) (valueAfter chip bcd mode n j)
+  running-shows j gate is =
+      let s = shown (watching (running chip m bcd one (o .access) count n (o .number) least gate j) false one) is in
+      record { output-is = s .shows-output ∙ output-place n j pos m; value-is = s .shows-value ∙ ap (held bcd) (value-place chip bcd n j pos m) }
 
-    at-the-pin : AtThePin (steps (steps now calls) later) i (modeNumber m) bcd n j
-    at-the-pin =
-        let pos = above-zero m n (legal-one .1) in
-        record {
-          output-agrees = shown .shows-output ∙ output-place n j pos m;
-          value-agrees =
-              shown .shows-value
-              ∙ ap (held bcd) (value-place chip bcd n j pos m)
-              ∙ ap (λ (model : PitType). held bcd (valueAfter (sheetChip model) bcd (modeNumber m) n j)) (sym (steps-model (steps now calls) later ∙ steps-model now calls));
-        }
+  stays-at : (qs : List Pulse) (st : Stage) (x : Watch) → Undisturbed (fallEffect mode .stops) true qs → At st true x
+      → At (times (clocksIn qs) next st) (lastLevel true qs) (pulsed chip x qs)
+  stays-at qs st x steady is =
+      stages chip m bcd one (o .access) count n (o .number) least qs st true (always-wanted (fallEffect mode .stops)) steady x is
+
+  to-pin : Undisturbed (fallEffect mode .stops) true ps → (j : ℕ) → clocksIn ps ≡ suc (lateTicks b i start m bcd n o + j)
+      → AtThePin (steps begun later) i bcd (outputAfter mode n j) (valueAfter chip bcd mode n j)
+  to-pin steady j made =
+      running-shows j (lastLevel true ps)
+      (subst (λ (st : Stage). At st (lastLevel true ps) (pulsed chip opened-watch ps))
+      (ap (λ (k : ℕ). times k next (due late)) made ∙ late-after late j)
+      (stays-at ps (due late) opened-watch steady opens))
+
+  -- after the ticks up to the load and j more
+  run-on : (j : ℕ) → pulsed chip opened-watch (clocks (suc (lateTicks b i start m bcd n o + j)))
+      ≡ watching (running chip m bcd one (o .access) count n (o .number) least true j) false one
+  run-on j =
+      let k = suc (lateTicks b i start m bcd n o + j) in
+      subst (λ (gate : Bool). At (run j) gate (pulsed chip opened-watch (clocks k))) (clocks-level true k)
+      (subst (λ (st : Stage). At st (lastLevel true (clocks k)) (pulsed chip opened-watch (clocks k)))
+      (ap (λ (c : ℕ). times c next (due late)) (clocks-in k) ∙ late-after late j)
+      (stays-at (clocks k) (due late) opened-watch (clocks-steady (fallEffect mode .stops) true k) opens))
+
+  -- a trigger, whatever came before it
+  restarts : riseEffect mode .loads ≡ true → (qs rs : List Pulse) → ps ≡ qs ++ gateAt true ∷ rs → lastLevel true qs ≡ false
+      → Undisturbed (fallEffect mode .stops) true rs → (j : ℕ) → clocksIn rs ≡ suc j
+      → AtThePin (steps begun later) i bcd (outputAfter mode n j) (valueAfter chip bcd mode n j)
+  restarts loads qs rs split low steady j made =
+      running-shows j (lastLevel true rs)
+      (subst (At (run j) (lastLevel true rs)) (sym (ap (pulsed chip opened-watch) split ∙ pulsed-both chip qs (gateAt true ∷ rs) opened-watch))
+      (subst (λ (st : Stage). At st (lastLevel true rs) (pulsed chip (watchGate there true) rs))
+      (ap (λ (k : ℕ). times k next (due false)) made ∙ run-after j)
+      (stays-at rs (due false) (watchGate there true) steady (w .output, (w .value, risen)))))
+    where
+      there : Watch
+      there = pulsed chip opened-watch qs
+
+      w : Written chip (o .access) mode bcd leftOpen (fixedAt count) one false there
+      w =
+          subst (λ (gate : Bool). Written chip (o .access) mode bcd leftOpen (fixedAt count) one gate there) low
+          (written-on chip (o .access) mode bcd leftOpen (fixedAt count) one qs true opened-watch
+          (record { phase = loading; output = opens .0; value = opens .1 .0; late = late; is = opens .1 .1 }))
+
+      risen : watchGate there true ≡ watching (counter chip m bcd one (o .access) count n (o .number) least true loading (w .output) (w .value)) false one
+      risen =
+          ap (λ (x : Watch). watchGate x true) (w .is)
+          ∙ ap
+          (λ (t : Bool). watching (counter chip m bcd one (o .access) count n (o .number) least true (cond t loading (w .phase)) (w .output) (w .value)) (cond t false (w .late)) one)
+          loads
+
+  -- G0, G4
+  abbrev Paused : List Pulse → ℕ → Type 0
+  Paused qs mode' =
+      AtThePin (steps begun later) i bcd (pausedOutput mode' n (highClocks true 0 qs) (lastCounted true false qs)) (downValue bcd n (highClocks true 0 qs))
+
+  loaded : pulsed chip opened-watch (clocks (suc (lateTicks b i start m bcd n o))) ≡ watching (running chip m bcd one (o .access) count n (o .number) least true 0) false one
+  loaded =
+      let same : lateTicks b i start m bcd n o + 0 ≡ lateTicks b i start m bcd n o = omega arith in
+      subst (λ (k : ℕ). pulsed chip opened-watch (clocks (suc k)) ≡ watching (running chip m bcd one (o .access) count n (o .number) least true 0) false one) same (run-on 0)
+
+  pauses : (mode ≡ 0) ⊎ (mode ≡ 4) → (qs : List Pulse) → ps ≡ clocks (suc (lateTicks b i start m bcd n o)) ++ qs → Paused qs mode
+  pauses modes qs split =
+      record { output-is = s .shows-output; value-is = s .shows-value }
+    where
+      begins : watching (running chip m bcd one (o .access) count n (o .number) least true 0) false one
+          ≡ watching (paused chip (o .access) bcd leftOpen count one n mode true 0 false) false one
+      begins =
+          ap (λ (p : ℕ). watching (at chip (counter chip m bcd one (o .access) count n (o .number) least true loading leftOpen leftOpen) n p) false one) (first-place n m)
+          ∙ ap
+          (λ (level : Bool). watching (counter chip m bcd one (o .access) count n (o .number) least true (counting n 0) (fixedAt level) (fixedAt (valueAfter chip bcd mode n 0))) false one)
+          (load-output n pos mode modes)
+          ∙ ap
+          (λ (v : ℕ). watching (counter chip m bcd one (o .access) count n (o .number) least true (counting n 0) (fixedAt (pausedOutput mode n 0 false)) (fixedAt v)) false one)
+          (load-value chip bcd n mode modes)
+
+      goes : (late' : Bool) × (pulsed chip (watching (paused chip (o .access) bcd leftOpen count one n mode true 0 false) false one) qs
+          ≡ watching (paused chip (o .access) bcd leftOpen count one n mode (lastLevel true qs) (highClocks true 0 qs) (lastCounted true false qs)) late' one)
+      goes = either-pauses chip (o .access) bcd leftOpen count one n mode modes qs true false 0 false
+
+      s : ShowsIn (watching (paused chip (o .access) bcd leftOpen count one n mode (lastLevel true qs) (highClocks true 0 qs) (lastCounted true false qs)) (goes .0) one)
+          (channelAt (steps begun later) i)
+      s =
+          shown _
+          (ap (pulsed chip opened-watch) split
+          ∙ pulsed-both chip (clocks (suc (lateTicks b i start m bcd n o))) qs opened-watch
+          ∙ ap (λ (x : Watch). pulsed chip x qs) (loaded ∙ begins)
+          ∙ goes .1)
+
+  -- G2, G3
+  holds : fallEffect mode .raises ≡ true → (j : ℕ) (qs : List Pulse) → ps ≡ clocks (suc (lateTicks b i start m bcd n o + j)) ++ gateAt false ∷ qs → Undisturbed false false qs
+      → AtThePin (steps begun later) i bcd true (valueAfter chip bcd mode n j)
+  holds raises j qs split quiet =
+      let place = placeOf (doesRetrigger m) n j in
+      let t =
+      held-by chip (o .access) m bcd leftOpen (fixedAt count) one n place (fixedAt (valueAfter chip bcd mode n place)) raises qs quiet false
+      (fixedAt (outputAfter mode n place)) in
+      let s =
+      shown _
+      (ap (pulsed chip opened-watch) split
+      ∙ pulsed-both chip (clocks (suc (lateTicks b i start m bcd n o + j))) (gateAt false ∷ qs) opened-watch
+      ∙ ap (λ (x : Watch). pulsed chip x (gateAt false ∷ qs)) (run-on j)
+      ∙ t .1) in
+      record { output-is = s .shows-output; value-is = s .shows-value ∙ ap (held bcd) (value-place chip bcd n j pos m) }
 
 pub port-to-pin : PortToPin
-port-to-pin b three i on earlier small control byte access m bcd is low high low-byte high-byte n number events place fine took later may others j made =
-    at-the-pin b three i on earlier small control byte access m bcd is low high low-byte high-byte n number events place fine took later may others j made
+port-to-pin b i start from on m bcd n o later others ps pins = to-pin b i start from on m bcd n o later others ps pins
+
+pub gate-pauses : GatePauses
+gate-pauses b i start from on m bcd n o later others ps pins = pauses b i start from on m bcd n o later others ps pins
+
+pub trigger-restarts : TriggerRestarts
+trigger-restarts b i start from on m bcd n o later others ps pins = restarts b i start from on m bcd n o later others ps pins
+
+pub fall-holds : FallHolds
+fall-holds b i start from on m bcd n o later others ps pins = holds b i start from on m bcd n o later others ps pins

@@ -1,5 +1,5 @@
--- The sheets' counter itself: j ticks after the tick that loaded n, with nothing else written and the gate as the mode wants it, it stands where the closed forms of
--- the sheets say. Assumes nothing.
+-- The sheets' counter itself: a tick takes a counter that stands at tick j of n to the next, and the closed forms of the sheets repeat as modes 2 and 3 do. Assumes
+-- nothing.
 use Prim.Native.Nat.{ℕ, zero, suc, _-_, _%_, _<_, _≤_}
 use mathlib.Core.Bool.{Bool, true, false, cond, _||_}
 use mathlib.Core.Path.{_≡_, refl, sym, ap, _∙_}
@@ -100,8 +100,8 @@ module _ (chip : Chip) (k : Counter) (n : ℕ) (takes : toLoad k ≡ fixedAt n) 
       (square-next (j % n) (eqb (suc (j % n)) n) (eqb (suc (j % n)) (highTicks n)) refl refl least
       ∙ sym (next-of n j least (eqb (suc (j % n)) n) refl))
 
-  next : (m : ChannelMode) → Next m
-  next =
+  pub next-place : (m : ChannelMode) → Next m
+  next-place =
       every-mode Next
       (λ mode least j. down-next j 0 mode refl refl)
       (λ mode least j. down-next j 1 mode refl refl)
@@ -110,11 +110,5 @@ module _ (chip : Chip) (k : Counter) (n : ℕ) (takes : toLoad k ≡ fixedAt n) 
       (λ mode least j. down-next j 4 mode refl refl)
       (λ mode least j. down-next j 5 mode refl refl)
 
-  first-place : (m : ChannelMode) → placeOf (doesRetrigger m) n 0 ≡ 0
-  first-place = every-mode (λ (m : ChannelMode). placeOf (doesRetrigger m) n 0 ≡ 0) refl refl (zero-mod n) (zero-mod n) refl refl
-
-  -- j ticks after the load
-  pub ticked : (m : ChannelMode) → k .mode ≡ modeNumber m → smallest (modeNumber m) ≤ n → (j : ℕ)
-      → times j (tick chip) (at chip k n 0) ≡ at chip k n (placeOf (doesRetrigger m) n j)
-  ticked m mode least zero = ap (at chip k n) (sym (first-place m))
-  ticked m mode least (suc j) = ap (tick chip) (ticked m mode least j) ∙ next m mode least j
+pub first-place : (n : ℕ) (m : ChannelMode) → placeOf (doesRetrigger m) n 0 ≡ 0
+first-place n = every-mode (λ (m : ChannelMode). placeOf (doesRetrigger m) n 0 ≡ 0) refl refl (zero-mod n) (zero-mod n) refl refl

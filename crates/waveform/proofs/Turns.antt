@@ -54,7 +54,7 @@ use Rattle.step.proofs.Touched.{write-stays, untouched-stays}
 use Rattle.sheet.specs.ControlByte.{Request, requestOf}
 use Rattle.agreement.specs.Words.{sheetChip}
 use Rattle.agreement.specs.Words.{sheetAccess, sheetRequest}
-use Rattle.agreement.specs.Watching.{Watch, watchProgram, watchReset, watchTick, watchGate, watchWrite, watchHand}
+use Rattle.agreement.specs.Watching.{Watch, watchProgram, watchReset, watchTick, watchGate, watchWrite, watchCounts, watchCycle}
 use Rattle.agreement.proofs.ControlByte.{control-agrees}
 use Rattle.agreement.proofs.Tracking.{coreOf, Tracks}
 use Rattle.agreement.proofs.TrackTick.{tick-tracks}
@@ -219,21 +219,21 @@ module _ (b : Board) (three : length (b .channels) ≡ 3) (i : ℕ) (on : i < 3)
   -- counts and load cycles by hand
   counts-by : (number : ℕ) (over : Bool) (value : Value)
       → cond over (refuse 6 b []) (accept done (withChannel b i (times number count (channelAt b i)))) .reply ≡ accepted value
-      → Then (watchHand w) (cond over (refuse 6 b []) (accept done (withChannel b i (times number count (channelAt b i)))) .board)
+      → Then (watchCounts w number) (cond over (refuse 6 b []) (accept done (withChannel b i (times number count (channelAt b i)))) .board)
   counts-by number true value took = absurd (refused-not 6 value took)
-  counts-by number false value took = placed (watchHand w) (times number count (channelAt b i)) (counts-track (b .model) w (channelAt b i) number now)
+  counts-by number false value took = placed (watchCounts w number) (times number count (channelAt b i)) (counts-track (b .model) w (channelAt b i) number now)
 
-  counts-turn : (n number : ℕ) (value : Value) → n ≡ i → counts b n number .reply ≡ accepted value → Then (watchHand w) (counts b n number .board)
+  counts-turn : (n number : ℕ) (value : Value) → n ≡ i → counts b n number .reply ≡ accepted value → Then (watchCounts w number) (counts b n number .board)
   unfolding counts
   counts-turn n number value is =
-      subst (λ (m : ℕ). counts b m number .reply ≡ accepted value → Then (watchHand w) (counts b m number .board)) (sym is)
+      subst (λ (m : ℕ). counts b m number .reply ≡ accepted value → Then (watchCounts w number) (counts b m number .board)) (sym is)
       (λ took. rw (not-above i on) (counts-by number (ltb 65536 number) value (rw (not-above i on) at took)))
 
-  cycle-turn : (n : ℕ) → n ≡ i → Then (watchHand w) (loadCycle b n .board)
+  cycle-turn : (n : ℕ) → n ≡ i → Then (watchCycle w) (loadCycle b n .board)
   unfolding loadCycle
   cycle-turn n is =
-      subst (λ (m : ℕ). Then (watchHand w) (loadCycle b m .board)) (sym is)
-      (rw (not-above i on) (placed (watchHand w) (load.loadCycle (channelAt b i)) (cycle-tracks (b .model) w (channelAt b i) now)))
+      subst (λ (m : ℕ). Then (watchCycle w) (loadCycle b m .board)) (sym is)
+      (rw (not-above i on) (placed (watchCycle w) (load.loadCycle (channelAt b i)) (cycle-tracks (b .model) w (channelAt b i) now)))
 
   -- reads and the dirty mark
   data-read : (n : ℕ) → n ≡ i → Then w (readFrom b (Data n) .board)
@@ -298,9 +298,9 @@ module _ (b : Board) (three : length (b .channels) ≡ 3) (i : ℕ) (on : i < 3)
       (eqb n i)
       refl
   turn (Counts n number) small value took =
-      by-channel n (watchHand w) (counts b n number .board) (λ is. counts-turn n number value is took) (λ other. leaves (Counts n number) other) (eqb n i) refl
+      by-channel n (watchCounts w number) (counts b n number .board) (λ is. counts-turn n number value is took) (λ other. leaves (Counts n number) other) (eqb n i) refl
   turn (LoadCycle n) small value took =
-      by-channel n (watchHand w) (loadCycle b n .board) (cycle-turn n) (λ other. leaves (LoadCycle n) other) (eqb n i) refl
+      by-channel n (watchCycle w) (loadCycle b n .board) (cycle-turn n) (λ other. leaves (LoadCycle n) other) (eqb n i) refl
   turn (CatchUp given) small value took = leaves (CatchUp given) (λ none. none)
   turn (Run given) small value took = leaves (Run given) (λ none. none)
   turn Reset small value took = reset-turn value took

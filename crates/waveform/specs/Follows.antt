@@ -2,6 +2,7 @@
 use Prim.Native.Nat.{ℕ, _<_}
 use mathlib.Core.Bool.{true, false}
 use mathlib.Core.List.{List}
+use mathlib.Core.Logic.{_⊎_}
 use mathlib.Core.Path.{_≡_}
 use lib.ListN.{length}
 use Rattle.channel.specs.declared.PitType.{PitType}
@@ -11,17 +12,21 @@ use Rattle.board.specs.Making.{fresh}
 use Rattle.step.specs.Operation.{Operation}
 use Rattle.step.specs.Step.{steps}
 use Rattle.sheet.specs.Counter.{leftOpen, fixedAt}
-use Rattle.agreement.specs.Watching.{unprogrammed, ShowsIn}
+use Rattle.agreement.specs.Watching.{Watch, unprogrammed, ShowsIn}
 use Rattle.waveform.specs.Heard.{watchOver, AllBytes}
 
--- from any board with three channels, of which nothing is known but the level at the gate
+-- what is known of a channel before the calls: of any board with three channels the level at the gate; of a new board that the gate is high and that no mode 1 was
+-- set
+abbrev pub AnyBoard : Board → ℕ → Watch → Type 0
+AnyBoard b i w = (length (b .channels) ≡ 3) × (w ≡ unprogrammed (channelAt b i .pins .gate) leftOpen)
+
+abbrev pub NewBoard : Board → Watch → Type 0
+NewBoard b w = (model : PitType) × ((divisor : ℕ) × ((b ≡ fresh model divisor) × (w ≡ unprogrammed true (fixedAt false))))
+
+abbrev pub Starts : Board → ℕ → Watch → Type 0
+Starts b i w = AnyBoard b i w ⊎ NewBoard b w
+
 abbrev pub Follows : Type 0
 Follows =
-    (b : Board) → length (b .channels) ≡ 3 → (i : ℕ) → i < 3 → (os : List Operation) → AllBytes os
-    → ShowsIn (watchOver i b os (unprogrammed (channelAt b i .pins .gate) leftOpen)) (channelAt (steps b os) i)
-
--- from a new board: no mode 1 was set on it, and its gates are high
-abbrev pub FollowsFresh : Type 0
-FollowsFresh =
-    (model : PitType) (divisor i : ℕ) → i < 3 → (os : List Operation) → AllBytes os
-    → ShowsIn (watchOver i (fresh model divisor) os (unprogrammed true (fixedAt false))) (channelAt (steps (fresh model divisor) os) i)
+    (b : Board) (i : ℕ) (w : Watch) → Starts b i w → i < 3 → (os : List Operation) → AllBytes os
+    → ShowsIn (watchOver i b os w) (channelAt (steps b os) i)

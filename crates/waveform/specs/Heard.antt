@@ -14,7 +14,7 @@ use Rattle.step.specs.Owed.{madeBy}
 use Rattle.sheet.specs.ControlByte.{Request, noCounter, latchCounter, program, requestOf}
 use Rattle.sheet.specs.Ticking.{Chip}
 use Rattle.agreement.specs.Words.{sheetChip}
-use Rattle.agreement.specs.Watching.{Watch, watchProgram, watchReset, watchTick, watchGate, watchWrite, watchHand}
+use Rattle.agreement.specs.Watching.{Watch, watchProgram, watchReset, watchTick, watchGate, watchWrite, watchCounts, watchCycle}
 
 -- C1: a control byte, as the sheet reads it. A latch is nothing to the output and the count (R2: "counting goes on underneath")
 abbrev pub heardControl : ℕ → Request → Watch → Watch
@@ -32,8 +32,8 @@ abbrev pub heard : ℕ → Board → Operation → Watch → Watch
 heard i b (WritePort port byte events place) w = heardByte i (sheetChip (b .model)) (b .defer) port byte w
 heard i b (ReadPort port) w = w
 heard i b (SetChannelGate channel level events place) w = cond (eqb channel i) (watchGate w level) w
-heard i b (Counts channel number) w = cond (eqb channel i) (watchHand w) w
-heard i b (LoadCycle channel) w = cond (eqb channel i) (watchHand w) w
+heard i b (Counts channel number) w = cond (eqb channel i) (watchCounts w number) w
+heard i b (LoadCycle channel) w = cond (eqb channel i) (watchCycle w) w
 heard i b (CatchUp given) w = w
 heard i b (Run given) w = w
 heard i b Reset w = watchReset w
@@ -45,7 +45,7 @@ heard i b GetTimerAccum w = w
 heard i b (WorkOff stated events place) w = times (madeBy (step b (WorkOff stated events place) .reply)) (watchTick (sheetChip (b .model))) w
 
 -- a refused call is not heard
-abbrev pub unlessRefused : Reply Value → Watch → Watch → Watch
+abbrev pub unlessRefused : {A : Type 0} → Reply Value → A → A → A
 unlessRefused (refused number) old new = old
 unlessRefused (accepted value) old new = new
 

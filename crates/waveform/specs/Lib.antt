@@ -1,4 +1,5 @@
 pub mod Heard
 pub mod Follows
+pub mod Pins
+pub mod Opened
 pub mod Pin
-pub mod Pauses

@@ -1,113 +1,78 @@
--- From the port to the pin: a mode set, the bytes of a count, the gate as the mode wants it, and ticks; the output and the value are then the closed forms that the
--- sheets give (crates/sheet/specs/Ticking.antt).
+-- From the port to the pin: a counter that a programmer has started, ticks and levels at its gate; the output and the value are then the closed forms that the sheets
+-- give (crates/sheet/specs/Ticking.antt). For any board, any calls before, every mode, chip, access, radix and count in range; the ticks are made in any number of calls.
 use Prim.Native.Nat.{ℕ, suc, _+_, _<_}
 use mathlib.Core.Bool.{Bool, true, false, not, cond, _&&_}
-use mathlib.Core.List.{List, [], _∷_, _++_}
+use mathlib.Core.List.{List, _∷_, _++_}
+use mathlib.Core.Logic.{_⊎_}
 use mathlib.Core.Path.{_≡_}
-use lib.ListN.{length}
+use lib.Dec.{eqb}
 use Rattle.channel.specs.declared.ChannelMode.{ChannelMode}
 use Rattle.channel.specs.Modes.{modeNumber}
 use Rattle.board.specs.declared.Board.{Board}
 use Rattle.board.specs.Board.{channelAt}
-use Rattle.step.specs.Operation.{Operation, WritePort, ReadPort, SetChannelGate, Counts, LoadCycle, CatchUp, Run, Reset, GetOutputState, GetChannelCount, DoesChannelRetrigger, IsDirty, GetTimerAccum, WorkOff}
+use Rattle.step.specs.Operation.{Operation}
 use Rattle.step.specs.Step.{steps}
-use Rattle.step.specs.Accepted.{AllAccepted}
-use Rattle.step.specs.Owed.{allMade}
-use Rattle.sheet.specs.ControlByte.{Access, lowByte, highByte, lowThenHigh, Request, noCounter, latchCounter, program, requestOf}
-use Rattle.sheet.specs.Gate.{fallEffect}
-use Rattle.sheet.specs.Loading.{countOf}
-use Rattle.sheet.specs.Ticking.{held, valueAfter, outputAfter}
-use Rattle.sheet.specs.Counter.{Fixed, leftOpen, fixedAt, awaitsCount}
-use Rattle.sheet.specs.CounterTick.{numberWritten, legal}
+use Rattle.sheet.specs.Gate.{fallEffect, riseEffect}
+use Rattle.sheet.specs.Ticking.{held, downValue, highFrom, valueAfter, outputAfter}
+use Rattle.sheet.specs.Counter.{fixedAt}
 use Rattle.agreement.specs.Words.{sheetChip}
-use Rattle.agreement.specs.Watching.{Watch, unprogrammed, watching, oneNow, strays, putsOff}
+use Rattle.agreement.specs.Watching.{Watch, oneNow}
+use Rattle.waveform.specs.Follows.{Starts, NewBoard}
 use Rattle.waveform.specs.Heard.{watchOver, AllBytes}
+use Rattle.waveform.specs.Opened.{Opened, after, lateTicks, tickOpen, afterOne}
+use Rattle.waveform.specs.Pins.{Pulse, gateAt, clocks, pinsOver, clocksIn, lastLevel, Undisturbed, highClocks, lastCounted}
 
--- C1, W1: the bytes of a count, in their order, and the count that they write
-abbrev pub bytesIn : Access → ℕ → ℕ → List ℕ
-bytesIn lowByte low high = low ∷ []
-bytesIn highByte low high = high ∷ []
-bytesIn lowThenHigh low high = low ∷ high ∷ []
+-- what the pin shows, and the counting element
+pub record AtThePin (b : Board) (i : ℕ) (bcd : Bool) (level : Bool) (value : ℕ) : Type 0 where
+  pub output-is : channelAt b i .pins .output ≡ level
+  pub value-is : channelAt b i .counter .«counting_element» ≡ held bcd value
 
-abbrev pub writtenIn : Access → ℕ → ℕ → ℕ
-writtenIn lowByte low high = countOf low 0
-writtenIn highByte low high = countOf 0 high
-writtenIn lowThenHigh low high = countOf low high
+-- a statement about every started counter, the calls after it and what they do to its pins
+abbrev pub ForEvery : ((b : Board) (i : ℕ) (m : ChannelMode) (bcd : Bool) (n late : ℕ) (now : Board) (ps : List Pulse) → Type 0) → Type 0
+ForEvery Says =
+    (b : Board) (i : ℕ) (start : Watch) → Starts b i start → i < 3 → (m : ChannelMode) (bcd : Bool) (n : ℕ) (o : Opened b i start m bcd n)
+    → (later : List Operation) → AllBytes later → (ps : List Pulse) → pinsOver i (after b i start m bcd n o) later ≡ fixedAt ps
+    → Says b i m bcd n (lateTicks b i start m bcd n o) (steps (after b i start m bcd n o) later) ps
 
--- G1, G5: the modes that a trigger starts
-abbrev pub triggered : ℕ → Bool
-triggered mode = not (fallEffect mode .stops)
-
--- the calls: the gate high, the mode set, the bytes, and a trigger where the mode wants one. Each lends event bytes and a place in them
-module _ (i : ℕ) (events : List ℕ) (place : ℕ) where
-  abbrev pub gateCall : Bool → Operation
-  gateCall level = SetChannelGate i level events place
-
-  abbrev pub byteCalls : List ℕ → List Operation
-  byteCalls [] = []
-  byteCalls (byte ∷ bytes) = WritePort (0x40 + i) byte events place ∷ byteCalls bytes
-
-  abbrev pub triggerCalls : Bool → List Operation
-  triggerCalls true = gateCall false ∷ gateCall true ∷ []
-  triggerCalls false = []
-
-  abbrev pub opening : ℕ → Access → ℕ → ℕ → ℕ → List Operation
-  opening control access mode low high =
-      gateCall true ∷ WritePort 0x43 control events place ∷ byteCalls (bytesIn access low high) ++ triggerCalls (triggered mode)
-
--- calls of which channel i hears nothing but ticks: reads, queries, time and ticks, and the others' bytes, gates, counts and load cycles
-abbrev pub NoProgram : ℕ → Request → Type 0
-NoProgram i noCounter = Unit
-NoProgram i (latchCounter n) = Unit
-NoProgram i (program n access mode bcd) = n ≡ i → ⊥
-
-abbrev pub OnlyTicks : ℕ → Operation → Type 0
-OnlyTicks i (WritePort port byte events place) = (port ≡ 0x40 + i → ⊥) × NoProgram i (requestOf byte)
-OnlyTicks i (ReadPort port) = Unit
-OnlyTicks i (SetChannelGate channel level events place) = channel ≡ i → ⊥
-OnlyTicks i (Counts channel number) = channel ≡ i → ⊥
-OnlyTicks i (LoadCycle channel) = channel ≡ i → ⊥
-OnlyTicks i (CatchUp given) = Unit
-OnlyTicks i (Run given) = Unit
-OnlyTicks i Reset = ⊥
-OnlyTicks i (GetOutputState channel) = Unit
-OnlyTicks i (GetChannelCount channel) = Unit
-OnlyTicks i (DoesChannelRetrigger channel) = Unit
-OnlyTicks i (IsDirty channel) = Unit
-OnlyTicks i GetTimerAccum = Unit
-OnlyTicks i (WorkOff stated events place) = Unit
-
-abbrev pub AllOnlyTicks : ℕ → List Operation → Type 0
-AllOnlyTicks i [] = Unit
-AllOnlyTicks i (o ∷ os) = OnlyTicks i o × AllOnlyTicks i os
-
--- whether mode 1 was the last of modes 0 to 3 that the calls so far set on the channel, where they set one
-abbrev pub afterOne : Watch → Fixed Bool
-afterOne (unprogrammed gate one) = one
-afterOne (watching k late one) = one
-
--- S1: the tick that loads is the first, or the second where the board defers
-abbrev pub laterTicks : Bool → ℕ → Fixed Bool → ℕ
-laterTicks defer mode one = cond (not (triggered mode) && putsOff defer mode awaitsCount one) 1 0
-
--- the output and the value, j ticks after the one that loads n
-pub record AtThePin (b : Board) (i : ℕ) (mode : ℕ) (bcd : Bool) (n j : ℕ) : Type 0 where
-  pub output-agrees : channelAt b i .pins .output ≡ outputAfter mode n j
-  pub value-agrees : channelAt b i .counter .«counting_element» ≡ held bcd (valueAfter (sheetChip (b .model)) bcd mode n j)
-
--- for any board, any calls before, every mode, chip, access, radix, count in range and number of ticks, made in any number of calls. Excepted is what `strays` says:
--- mode 5 unless mode 1 was set before it (S5), and mode 4 with the defer flag set where it is not known which mode was
+-- j ticks after the one that loads, the gate being as the mode wants it: high in modes 0, 2, 3 and 4, in modes 1 and 5 at any level that does not rise
 abbrev pub PortToPin : Type 0
 PortToPin =
-    (b : Board) → length (b .channels) ≡ 3 → (i : ℕ) → i < 3 → (earlier : List Operation) → AllBytes earlier
-    → (control : ℕ) → control < 256 → (access : Access) (m : ChannelMode) (bcd : Bool) → requestOf control ≡ program i access (modeNumber m) bcd
-    → (low high : ℕ) → low < 256 → high < 256 → (n : ℕ) → legal (modeNumber m) (numberWritten bcd (writtenIn access low high)) ≡ fixedAt n
-    → (events : List ℕ) (place : ℕ)
-    → let now = steps b earlier in
-    let calls = opening i events place control access (modeNumber m) low high in
-    let one = oneNow (modeNumber m) (afterOne (watchOver i b earlier (unprogrammed (channelAt b i .pins .gate) leftOpen))) in
-    strays (now .defer) (modeNumber m) awaitsCount one ≡ false
-    → AllAccepted now calls
-    → (later : List Operation) → AllOnlyTicks i later → AllBytes later
-    → (j : ℕ) → allMade (steps now calls) later ≡ suc (laterTicks (now .defer) (modeNumber m) one + j)
-    → AtThePin (steps (steps now calls) later) i (modeNumber m) bcd n j
+    ForEvery
+    (λ (b : Board) (i : ℕ) (m : ChannelMode) (bcd : Bool) (n late : ℕ) (now : Board) (ps : List Pulse).
+    Undisturbed (fallEffect (modeNumber m) .stops) true ps → (j : ℕ) → clocksIn ps ≡ suc (late + j)
+    → AtThePin now i bcd (outputAfter (modeNumber m) n j) (valueAfter (sheetChip (b .model)) bcd (modeNumber m) n j))
+
+-- G0, G4: any levels and ticks after the load, of which r were made while the gate was high. Mode 0 is high from r = n on; mode 4 is low exactly after the tick that
+-- makes r equal n
+abbrev pub pausedOutput : ℕ → ℕ → ℕ → Bool → Bool
+pausedOutput mode n r counted = cond (eqb mode 0) (highFrom n r) (not (counted && eqb r n))
+
+abbrev pub GatePauses : Type 0
+GatePauses =
+    ForEvery
+    (λ (b : Board) (i : ℕ) (m : ChannelMode) (bcd : Bool) (n late : ℕ) (now : Board) (ps : List Pulse).
+    (modeNumber m ≡ 0) ⊎ (modeNumber m ≡ 4) → (qs : List Pulse) → ps ≡ clocks (suc late) ++ qs
+    → AtThePin now i bcd (pausedOutput (modeNumber m) n (highClocks true 0 qs) (lastCounted true false qs)) (downValue bcd n (highClocks true 0 qs)))
+
+-- G1, G2, G3, G5: after any levels and ticks a trigger begins again, and j ticks after the one that loads the counter stands as after the first load
+abbrev pub TriggerRestarts : Type 0
+TriggerRestarts =
+    ForEvery
+    (λ (b : Board) (i : ℕ) (m : ChannelMode) (bcd : Bool) (n late : ℕ) (now : Board) (ps : List Pulse).
+    riseEffect (modeNumber m) .loads ≡ true → (qs rs : List Pulse) → ps ≡ qs ++ gateAt true ∷ rs → lastLevel true qs ≡ false
+    → Undisturbed (fallEffect (modeNumber m) .stops) true rs → (j : ℕ) → clocksIn rs ≡ suc j
+    → AtThePin now i bcd (outputAfter (modeNumber m) n j) (valueAfter (sheetChip (b .model)) bcd (modeNumber m) n j))
+
+-- G2, G3: j ticks after the load the gate falls, and up to the next trigger the output is high and the value stands
+abbrev pub FallHolds : Type 0
+FallHolds =
+    ForEvery
+    (λ (b : Board) (i : ℕ) (m : ChannelMode) (bcd : Bool) (n late : ℕ) (now : Board) (ps : List Pulse).
+    fallEffect (modeNumber m) .raises ≡ true → (j : ℕ) (qs : List Pulse) → ps ≡ clocks (suc (late + j)) ++ gateAt false ∷ qs → Undisturbed false false qs
+    → AtThePin now i bcd true (valueAfter (sheetChip (b .model)) bcd (modeNumber m) n j))
+
+-- on a new board it is never open which tick loads
+abbrev pub NewIsKnown : Type 0
+NewIsKnown =
+    (b : Board) (start : Watch) → NewBoard b start → (i : ℕ) (os : List Operation) (defer : Bool) (mode : ℕ)
+    → tickOpen defer mode (oneNow mode (afterOne (watchOver i b os start))) ≡ false
