@@ -65,9 +65,12 @@ module _ (model : PitType) (bcd : Bool) (v : ℕ) (c : Channel) (mode : c .contr
   at-mark : reloadsFrom (c .control .mode) (c .counter .«counting_element») ≡ eqb v 1
   at-mark = rw (mode, now .rate-value) (held-one bcd v most)
 
+  pub rate-due : v ≡ 1 → due c ≡ Reload
+  rate-due one = due-reload c goes running (at-mark ∙ eq-eqb v 1 one)
+
   pub rate-reloads : (n : ℕ) → 2 ≤ n → n ≤ radixCounts bcd → c .load .«reload_value» ≡ held bcd n → v ≡ 1 → RateAt bcd n (tick model c)
   rate-reloads n least at-most written one =
-      let is-due : due c ≡ Reload = due-reload c goes running (at-mark ∙ eq-eqb v 1 one) in
+      let is-due : due c ≡ Reload = rate-due one in
       let may : neverLoaded c ≡ false = rate-may bcd n c least at-most mode written in
       rate-loaded bcd n _ c (tick model c) least (tick-reloads c may model is-due) (rw mode refl) mode written
 

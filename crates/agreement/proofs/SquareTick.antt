@@ -16,15 +16,17 @@ use Rattle.channel.specs.declared.ReloadFlag.{ReloadFlag}
 use Rattle.channel.specs.declared.ReloadFlag.the-variants.{Normal, ReloadNextCycle}
 use Rattle.channel.specs.Shared.{changeChannelState, changeOutputState}
 use Rattle.count.specs.Count.{count}
+use Rattle.count.proofs.Repeated.{control-kept}
 use Rattle.tick.specs.declared.due.Kind.the-variants.{Reload, Count}
 use Rattle.tick.specs.Due.{due}
 use Rattle.tick.specs.Taken.{squareTakes}
-use Rattle.tick.specs.Tick.{agedBy, withArmed, loadAt, halfOver, countingOn, marked, afterCounts, tick}
+use Rattle.tick.specs.Tick.{neverLoaded, agedBy, withArmed, loadAt, halfOver, countingOn, marked, afterCounts, tick}
 use Rattle.sheet.specs.Ticking.{held}
 use Rattle.agreement.proofs.HeldCounts.{counts-load}
 use Rattle.agreement.proofs.SquareHeld.{held-parity, held-above}
 use Rattle.agreement.proofs.SquareValue.{loadedCount, waitsAtZero}
 use Rattle.agreement.proofs.SquareSet.{At, set-kept, counted, load-at}
+use Rattle.agreement.proofs.TickLoads.{Sent, sent-at, reload-sent}
 
 held-zero : (bcd : Bool) → held bcd 0 ≡ 0
 unfolding packed
@@ -100,6 +102,10 @@ module _ (model : PitType) (bcd : Bool) where
     unfolding due
     reload-due h = simp (h .state-is, h .set .mode-is, h .set .gate-high)
 
+    -- S8: where a count of 1 is written
+    pub reloads-back : At model bcd ReloadNextCycle high 0 d → neverLoaded d ≡ true → Sent (tick model d)
+    reloads-back h never = reload-sent model d never (reload-due h)
+
     pub reloads : At model bcd ReloadNextCycle high 0 d → (n : ℕ) → d .load .«reload_value» ≡ held bcd n → 2 ≤ n → n ≤ radixCounts bcd
         → At model bcd Normal (not high) (loadedCount model n) (tick model d)
     unfolding tick
@@ -133,6 +139,15 @@ module _ (model : PitType) (bcd : Bool) where
         let a : At model bcd Normal high 0 (times t count d) = left-over 0 (omega arith) in
         rw (tick-takes, at-zero high (times t count d) a, over-now high (times t count d) a (rw same-reload now))
         (load-at model bcd n (not high) (times t count d) (same-reload ∙ written) (a .set) least most)
+
+    same-never : neverLoaded (times t count d) ≡ neverLoaded d
+    same-never = rw (control-kept t d, same-reload) refl
+
+    pub ends-back : t ≡ v → waitsAtZero model (d .load .«reload_value») high ≡ false → neverLoaded d ≡ true → Sent (tick model d)
+    ends-back e now never =
+        let a : At model bcd Normal high 0 (times t count d) = left-over 0 (omega arith) in
+        rw (tick-takes, at-zero high (times t count d) a, over-now high (times t count d) a (rw same-reload now))
+        (sent-at (not high) (times t count d) (same-never ∙ never))
 
     pub lingers : t ≡ v → waitsAtZero model (d .load .«reload_value») high ≡ true → At model bcd ReloadNextCycle high 0 (tick model d)
     lingers e later =

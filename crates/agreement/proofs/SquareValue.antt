@@ -180,16 +180,24 @@ begins model n high =
     odd-begins Model8253 odd = refl
     odd-begins Model8254 odd = omega arith
 
--- .. and nothing in it is larger than the count
-pub at-most-count : (chip : Chip) (n : ℕ) (high : Bool) (s : ℕ) → halfValue chip n high s ≤ n
-at-most-count chip n high s =
+-- .. and nothing in it is larger
+pub at-most-loaded : (model : PitType) (n : ℕ) (high : Bool) (s : ℕ) → halfValue (sheetChip model) n high s ≤ loadedCount model n
+at-most-loaded model n high s =
     ⊎-elim
-    (λ (even : n % 2 ≡ 0). rw (value-even chip n high s even) (omega arith))
-    (λ (odd : n % 2 ≡ 1). rw (value-odd chip n high s odd) (odd-most chip high s))
+    (λ (even : n % 2 ≡ 0). rw (value-even (sheetChip model) n high s even) (even-most model even))
+    (λ (odd : n % 2 ≡ 1). rw (value-odd (sheetChip model) n high s odd) (odd-most model high s odd))
     (parity n)
   where
-    odd-most : (chip : Chip) (high : Bool) (s : ℕ) → oddValue chip n high s ≤ n
-    odd-most chip8253 high zero = le-refl n
-    odd-most chip8253 true (suc r) = rw (later-high n r) (omega arith)
-    odd-most chip8253 false (suc r) = rw (later-low n r) (omega arith)
-    odd-most chip8254 high s = omega arith
+    even-most : (model : PitType) → n % 2 ≡ 0 → n - 2 * s ≤ loadedCount model n
+    even-most Model8253 even = omega arith
+    even-most Model8254 even = omega arith
+
+    odd-most : (model : PitType) (high : Bool) (s : ℕ) → n % 2 ≡ 1 → oddValue (sheetChip model) n high s ≤ loadedCount model n
+    odd-most Model8253 high zero odd = le-refl n
+    odd-most Model8253 true (suc r) odd = rw (later-high n r) (omega arith)
+    odd-most Model8253 false (suc r) odd = rw (later-low n r) (omega arith)
+    odd-most Model8254 high s odd = omega arith
+
+pub loaded-at-most : (model : PitType) (n : ℕ) → loadedCount model n ≤ n
+loaded-at-most Model8253 n = le-refl n
+loaded-at-most Model8254 n = omega arith

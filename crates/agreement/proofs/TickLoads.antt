@@ -3,7 +3,7 @@
 use mathlib.Core.Bool.{Bool, true, false, cond}
 use mathlib.Core.Path.{_≡_, refl}
 use Rattle.channel.specs.declared.Channel.{Channel}
-use Rattle.channel.specs.declared.ChannelState.the-variants.{Counting}
+use Rattle.channel.specs.declared.ChannelState.the-variants.{WaitingForLoadCycle, Counting}
 use Rattle.channel.specs.declared.PitType.{PitType}
 use Rattle.channel.specs.declared.ReloadFlag.the-variants.{Normal}
 use Rattle.channel.specs.Shared.{changeChannelState, changeOutputState, putElement}
@@ -47,3 +47,24 @@ pub tick-level : (model : PitType) (c : Channel) → due c ≡ Load → tick mod
 unfolding tick loadAt sentBack loaded withArmed changeOutputState
 tick-level model c is-due =
     rw is-due (of-pick getOutputState (neverLoaded c) (sentBack c) (loaded (loadLevel (c .control .mode)) c))
+
+-- .. and the load due
+pub record Sent (d : Channel) : Type 0 where
+  pub waits : d .counter .«channel_state» ≡ WaitingForLoadCycle
+  pub is-high : d .pins .output ≡ true
+
+pub sent-at : (level : Bool) (c : Channel) → neverLoaded c ≡ true → Sent (loadAt level c)
+unfolding loadAt sentBack changeOutputState changeChannelState
+sent-at level c never = rw never (record { waits = refl; is-high = refl })
+
+pub load-sent : (model : PitType) (c : Channel) → neverLoaded c ≡ true → due c ≡ Load → Sent (tick model c)
+unfolding tick
+load-sent model c never is-due = rw is-due (sent-at _ c never)
+
+pub reload-sent : (model : PitType) (c : Channel) → neverLoaded c ≡ true → due c ≡ Reload → Sent (tick model c)
+unfolding tick
+reload-sent model c never is-due = rw is-due (sent-at _ c never)
+
+pub kept-element : (model : PitType) (c : Channel) → neverLoaded c ≡ true → due c ≡ Load → tick model c .counter .«counting_element» ≡ c .counter .«counting_element»
+unfolding tick loadAt sentBack changeOutputState changeChannelState
+kept-element model c never is-due = rw (is-due, never) refl

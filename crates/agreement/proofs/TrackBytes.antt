@@ -28,7 +28,7 @@ use Rattle.sheet.specs.Counter.{Fixed, leftOpen, fixedAt, Phase, awaitsCount, C
 use Rattle.sheet.specs.CounterWrite.{outputOnCount, outputOnFirst, complete, writeWord, writeIn}
 use Rattle.agreement.specs.Words.{sheetChip}
 use Rattle.agreement.specs.Words.{sheetAccess}
-use Rattle.agreement.specs.Watching.{Watch, unprogrammed, watching, completes, countPhase, lowOf, staysHigh, makesDue, putsOff, watchWrite, IsFixed}
+use Rattle.agreement.specs.Watching.{Watch, unprogrammed, watching, completes, countPhase, lowOf, keepsOutput, dropsOutput, makesDue, putsOff, watchWrite, IsFixed}
 use Rattle.agreement.proofs.Loading.{stops-agree}
 use Rattle.agreement.proofs.TrackFirst.{begunCore, begun-core, begins}
 use Rattle.agreement.proofs.TrackWrite.{done-core, writes-in}
@@ -111,8 +111,8 @@ module _ (model : PitType) (one : Fixed Bool) (o : Fixed Bool) (v : Fixed ℕ) (
   watchedBy a first k =
       watching
       (standing k
-      (cond (completes a first) (countPhase chip defer mode (c .control .«bcd_mode») one (lowOf a first byte) p) (k .phase))
-      (cond (staysHigh a mode) o (k .output))
+      (cond (completes a first) (countPhase chip defer mode one (lowOf a first byte) p) (k .phase))
+      (cond (keepsOutput a mode) o (cond (dropsOutput a first mode) (fixedAt false) (k .output)))
       (k .value))
       (cond (completes a first && makesDue mode p) (putsOff defer mode p one) late)
       one
@@ -138,7 +138,7 @@ module _ (model : PitType) (one : Fixed Bool) (o : Fixed Bool) (v : Fixed ℕ) (
   abbrev whole : Fixed ℕ → ℕ → ℕ → Fixed Bool → Watch
   whole first w x o' =
       watching
-      (wholeAt first w (countPhase chip defer mode (c .control .«bcd_mode») one x p) o' v)
+      (wholeAt first w (countPhase chip defer mode one x p) o' v)
       (cond (makesDue mode p) (putsOff defer mode p one) late)
       one
 
@@ -207,8 +207,8 @@ module _ (model : PitType) (one : Fixed Bool) (o : Fixed Bool) (v : Fixed ℕ) (
       (begins model (coreOf c) byte one o v p late h (stopsOnLowByte (c .control .mode)) refl))
     where
       -- the sheets' first byte and the record's
-      begunAt : Fixed ℕ → Bool → Watch
-      begunAt first stops =
+      begunAt : Fixed ℕ → Bool → Fixed Bool → Watch
+      begunAt first stops output =
           watching
           (record {
             access = sheetAccess (c .control .«rw_mode»);
@@ -218,7 +218,7 @@ module _ (model : PitType) (one : Fixed Bool) (o : Fixed Bool) (v : Fixed ℕ) (
             count = counter .count;
             gate = c .pins .gate;
             phase = cond stops awaitsCount p;
-            output = cond stops (outputOnFirst chip o) o;
+            output = output;
             value = v;
           })
           late
@@ -227,10 +227,16 @@ module _ (model : PitType) (one : Fixed Bool) (o : Fixed Bool) (v : Fixed ℕ) (
       first-is : firstOf (c .control .«rw_mode») WaitingForMsb byte ≡ fixedAt byte
       first-is = ap (λ (a : RwMode). firstOf a WaitingForMsb byte) both ∙ ap (λ (b : ℕ). fixedAt b) (mod-eq-of-lt small)
 
-      same : begunAt (firstOf (c .control .«rw_mode») WaitingForMsb byte) (stopsOnLowByte (c .control .mode)) ≡ watched lowThenHigh leftOpen
+      dropped : (b : Bool) → cond b (fixedAt false) o ≡ cond b (fixedAt false) (cond b (outputOnFirst chip o) o)
+      dropped true = refl
+      dropped false = refl
+
+      same : begunAt (firstOf (c .control .«rw_mode») WaitingForMsb byte) (stopsOnLowByte (c .control .mode)) (cond (stopsOnLowByte (c .control .mode)) (fixedAt false) o)
+          ≡ watched lowThenHigh leftOpen
       same =
-          ap (λ (f : Fixed ℕ). begunAt f (stopsOnLowByte (c .control .mode))) first-is
-          ∙ ap (begunAt (fixedAt byte)) (stops-agree (c .control .mode))
+          ap (λ (f : Fixed ℕ). begunAt f (stopsOnLowByte (c .control .mode)) (cond (stopsOnLowByte (c .control .mode)) (fixedAt false) o)) first-is
+          ∙ ap (λ (stops : Bool). begunAt (fixedAt byte) stops (cond stops (fixedAt false) o)) (stops-agree (c .control .mode))
+          ∙ ap (begunAt (fixedAt byte) (eqb mode 0)) (dropped (eqb mode 0))
 
   writes-by : (a : RwMode) (s : LoadState) → c .control .«rw_mode» ≡ a → c .load .«load_state» ≡ s
       → After (sheetAccess (c .control .«rw_mode»)) (firstOf (c .control .«rw_mode») (c .load .«load_state») (c .load .«count_register»))

@@ -25,7 +25,7 @@ use Rattle.agreement.proofs.CountsDown.{countsDown, every-down, any-loa
 use Rattle.agreement.proofs.HeldCounts.{held-round}
 use Rattle.agreement.proofs.TickCounts.{CountedTo}
 use Rattle.agreement.proofs.TickLoads.{LoadedAt, tick-loads}
-use Rattle.agreement.proofs.Tracking.{coreOf, Down, down, Arrived}
+use Rattle.agreement.proofs.Tracking.{topOf, coreOf, Down, down, Arrived}
 use Rattle.agreement.proofs.ZeroAt.{rises, strobes-once, armed-until}
 
 -- the level of a load, and what it leaves of it for the next tick
@@ -83,6 +83,9 @@ module _ (bcd : Bool) (n j : ℕ) (most : n ≤ radixCounts bcd) (level armed : 
       (λ strobe is. rw (strobe refl) (armed-until bcd n j most))
       (λ strobe is. rw (strobe refl) (armed-until bcd n j most))
 
+pub down-top : (model : PitType) (n : ℕ) (m : ChannelMode) → countsDown m ≡ true → topOf model m n ≡ n
+down-top model n = every-down (λ (m : ChannelMode). topOf model m n ≡ n) refl refl refl refl
+
 module _ (model : PitType) (c : Channel) (n : ℕ) (is-down : countsDown (c .control .mode) ≡ true) (complete : c .load .«load_type» ≡ SubsequentLoad)
     (least : smallest (modeNumber (c .control .mode)) ≤ n) (most : n ≤ radixCounts (c .control .«bcd_mode»)) where
   keeps : TickKeeps c (tick model c)
@@ -100,7 +103,7 @@ module _ (model : PitType) (c : Channel) (n : ℕ) (is-down : countsDown (c .con
             record {
               complete = keeps .load-type-kept ∙ complete;
               at-least = rw (keeps .control-kept) least;
-              at-most = rw (keeps .control-kept) most;
+              at-most = rw (keeps .control-kept, down-top model n (c .control .mode) is-down) most;
               there = down there;
             };
         shows-output = rw (keeps .control-kept) output;

@@ -48,15 +48,6 @@ unfolding writeByte putRegister changeChannelState changeOutputState
 begun-core c byte defer true both waits stops = simp (both, waits, stops)
 begun-core c byte defer false both waits stops = simp (both, waits, stops)
 
-lowered-low : (o : Fixed Bool) → IsFixed (lowered o) false
-lowered-low leftOpen = tt
-lowered-low (fixedAt true) = tt
-lowered-low (fixedAt false) = refl
-
-first-low : (chip : Chip) (o : Fixed Bool) → IsFixed (outputOnFirst chip o) false
-first-low chip8253 o = lowered-low o
-first-low chip8254 o = refl
-
 only-zero : (m : ChannelMode) → stopsOnLowByte m ≡ true → m ≡ InterruptOnTerminalCount
 only-zero =
     every-mode (λ (m : ChannelMode). stopsOnLowByte m ≡ true → m ≡ InterruptOnTerminalCount)
@@ -105,13 +96,13 @@ module _ (model : PitType) (c : Core) (byte : ℕ) where
         }
 
     abbrev begunOutput : Bool → Fixed Bool
-    begunOutput stops = cond stops (outputOnFirst (sheetChip model) o) o
+    begunOutput stops = cond stops (fixedAt false) o
 
     pub begins : (stops : Bool) → stopsOnLowByte (c .control .mode) ≡ stops
         → Tracks model (watching (view (begunCore byte stops c) (cond stops awaitsCount p) (begunOutput stops) v) late one) (begunCore byte stops c)
     begins true stops =
         let zero : c .control .mode ≡ InterruptOnTerminalCount = only-zero (c .control .mode) stops in
-        tracked awaitsCount (outputOnFirst (sheetChip model) o) v late one refl
+        tracked awaitsCount (fixedAt false) v late one refl
         (record {
           rules = rules-begun true stops;
           phase-is =
@@ -120,7 +111,7 @@ module _ (model : PitType) (c : Core) (byte : ℕ) where
                 none = λ other. absurd (other zero);
                 is-high = λ raises. absurd (false≢true (sym (ap (λ (m : ChannelMode). fallEffect (modeNumber m) .raises) zero) ∙ raises));
               };
-          output-is = first-low (sheetChip model) o;
+          output-is = refl;
           value-is = h .value-is;
         })
     begins false stops =

@@ -14,12 +14,12 @@ use Rattle.channel.specs.Queries.{doesRetrigger}
 use Rattle.tick.specs.declared.due.Kind.the-variants.{Load}
 use Rattle.tick.specs.Due.{runs, due}
 use Rattle.tick.specs.Kept.{TickKeeps}
-use Rattle.tick.specs.Tick.{tick}
+use Rattle.tick.specs.Tick.{neverLoaded, tick}
 use Rattle.tick.proofs.Keeps as kept
 use Rattle.sheet.specs.Ticking.{held, rateValue}
 use Rattle.agreement.specs.Gating.{underway}
 use Rattle.agreement.proofs.Rate as by-rate
-use Rattle.agreement.proofs.TickLoads.{tick-loads}
+use Rattle.agreement.proofs.TickLoads.{tick-loads, Sent, reload-sent}
 use Rattle.agreement.proofs.Tracking.{coreOf, Rate, rate, paused, Standing, Arrived}
 
 module _ (model : PitType) (c : Channel) (mode : c .control .mode ≡ RateGenerator) (complete : c .load .«load_type» ≡ SubsequentLoad) where
@@ -63,7 +63,7 @@ module _ (model : PitType) (c : Channel) (mode : c .control .mode ≡ RateGenera
               record {
                 complete = keeps .load-type-kept ∙ complete;
                 at-least = rw mode-then least;
-                at-most = rw (keeps .control-kept) most;
+                at-most = rw (mode-then, keeps .control-kept) most;
                 there = there j inside now (c .pins .gate) refl;
               };
           shows-output = rw mode-then (now .rate-level);
@@ -103,6 +103,11 @@ module _ (model : PitType) (c : Channel) (mode : c .control .mode ≡ RateGenera
           arrived (suc j) on
           (rw (by-rate.next-place n j least other)
           (by-rate.rate-counts model (c .control .«bcd_mode») (rateValue n j) c mode running here below refl (rw place (omega arith)) other))
+
+      -- S8: the last tick of a period, with a count of 1 written
+      pub rate-sent : suc j ≡ n → neverLoaded c ≡ true → Sent (tick model c)
+      rate-sent last never =
+          reload-sent model c never (by-rate.rate-due model (c .control .«bcd_mode») (rateValue n j) c mode running here below (place ∙ omega arith))
 
       pub reloads-rate : suc j ≡ n → (m : ℕ) → 2 ≤ m → m ≤ radixCounts (c .control .«bcd_mode») → c .load .«reload_value» ≡ held (c .control .«bcd_mode») m
           → by-rate.RateAt (c .control .«bcd_mode») m (tick model c)

@@ -3,7 +3,7 @@
 use Prim.Native.Nat.{ℕ, suc, _-_, _<_, _≤_}
 use mathlib.Core.Bool.{Bool, true, false, not, cond}
 use mathlib.Core.Path.{_≡_, refl, sym, ap, ap₂, _∙_, subst}
-use native.Mathlib.Nat.{mod-eq-of-lt}
+use native.Mathlib.Nat.{mod-eq-of-lt, le-trans}
 use native.Mathlib.Omega.{arith}
 use Rattle.numbers.specs.Radix.{radixCounts}
 use Rattle.channel.specs.declared.Channel.{Channel}
@@ -17,7 +17,7 @@ use Rattle.tick.specs.declared.due.Kind.the-variants.{Load}
 use Rattle.tick.specs.Due.{due}
 use Rattle.tick.specs.Kept.{TickKeeps}
 use Rattle.tick.specs.Level.{loadLevel}
-use Rattle.tick.specs.Tick.{loadAt, tick}
+use Rattle.tick.specs.Tick.{neverLoaded, loadAt, tick}
 use Rattle.tick.proofs.Keeps as kept
 use Rattle.sheet.specs.Ticking.{held, highTicks, squareValue}
 use Rattle.agreement.specs.Gating.{underway}
@@ -26,8 +26,8 @@ use Rattle.agreement.proofs.Square as wave
 use Rattle.agreement.proofs.SquareHeld.{held-not-one}
 use Rattle.agreement.proofs.SquarePlace.{halfTicks, Stands, high-there, since-there, stands-first, stands-on}
 use Rattle.agreement.proofs.SquareSet.{Set, At, value-loaded, load-at}
-use Rattle.agreement.proofs.SquareValue.{halfValue, loadedCount, waitsAtZero, moves, begins}
-use Rattle.agreement.proofs.TickLoads.{LoadedAt, tick-loads}
+use Rattle.agreement.proofs.SquareValue.{halfValue, loadedCount, waitsAtZero, moves, begins, loaded-at-most}
+use Rattle.agreement.proofs.TickLoads.{LoadedAt, tick-loads, Sent}
 use Rattle.agreement.proofs.Tracking.{coreOf, Square, square, paused, Arrived}
 use borrow.Author.Tests.{ne-eqb}
 
@@ -59,7 +59,7 @@ module _ (model : PitType) (c : Channel) (mode : c .control .mode ≡ SquareWave
   set-now : c .pins .gate ≡ true → Set model (c .control .«bcd_mode») c
   set-now gate = record { mode-is = mode; radix-is = refl; masked = masked; gate-high = gate }
 
-  module _ (n : ℕ) (least : 2 ≤ n) (most : n ≤ radixCounts (c .control .«bcd_mode»)) where
+  module _ (n : ℕ) (least : 2 ≤ n) (most : loadedCount model n ≤ radixCounts (c .control .«bcd_mode»)) where
     -- where the next tick leaves a channel whose gate is high
     there : (j : ℕ) (high : Bool) (s : ℕ) → j < n → Stands n j high s → wave.In model (c .control .«bcd_mode») n least most high s (tick model c)
         → (0 < halfValue (sheetChip model) n high s → waitsAtZero model (c .load .«reload_value») high ≡ waitsAtZero model n high) → Arrived model (tick model c) n j
@@ -69,7 +69,7 @@ module _ (model : PitType) (c : Channel) (mode : c .control .mode ≡ SquareWave
               record {
                 complete = keeps .load-type-kept ∙ complete;
                 at-least = rw mode-then least;
-                at-most = rw (keeps .control-kept) most;
+                at-most = rw (mode-then, keeps .control-kept) most;
                 there =
                     square
                     (record {
@@ -114,7 +114,7 @@ module _ (model : PitType) (c : Channel) (mode : c .control .mode ≡ SquareWave
               record {
                 complete = keeps .load-type-kept ∙ complete;
                 at-least = rw mode-then least;
-                at-most = rw (keeps .control-kept) most;
+                at-most = rw (mode-then, keeps .control-kept) most;
                 there =
                     paused
                     (record {
@@ -129,22 +129,23 @@ module _ (model : PitType) (c : Channel) (mode : c .control .mode ≡ SquareWave
           shows-value = rw (mode-then, keeps .control-kept) value;
         }
 
-    loads-by : (gate : Bool) → c .pins .gate ≡ gate → due c ≡ Load → c .load .«reload_value» ≡ held (c .control .«bcd_mode») n
+    loads-by : n ≤ radixCounts (c .control .«bcd_mode») → (gate : Bool) → c .pins .gate ≡ gate → due c ≡ Load → c .load .«reload_value» ≡ held (c .control .«bcd_mode») n
         → Arrived model (tick model c) n 0
-    loads-by true gate is-due written =
+    loads-by top true gate is-due written =
         begun true written
-        (rw (first-tick is-due) (load-at model (c .control .«bcd_mode») n true c written (set-now gate) least most))
-    loads-by false gate is-due written =
+        (rw (first-tick is-due) (load-at model (c .control .«bcd_mode») n true c written (set-now gate) least top))
+    loads-by top false gate is-due written =
         held-there gate
         (subst (λ (b : Bool). LoadedAt b c (tick model c)) (ap loadLevel mode)
-        (tick-loads c (simp (mode, written, ne-eqb (held (c .control .«bcd_mode») n) 1 (held-not-one (c .control .«bcd_mode») n least most))) model is-due))
+        (tick-loads c (simp (mode, written, ne-eqb (held (c .control .«bcd_mode») n) 1 (held-not-one (c .control .«bcd_mode») n least top))) model is-due))
         written
 
-    pub loads-square : due c ≡ Load → c .load .«reload_value» ≡ held (c .control .«bcd_mode») n → Arrived model (tick model c) n 0
-    loads-square = loads-by (c .pins .gate) refl
+  pub loads-square : (n : ℕ) → 2 ≤ n → n ≤ radixCounts (c .control .«bcd_mode») → due c ≡ Load → c .load .«reload_value» ≡ held (c .control .«bcd_mode») n
+      → Arrived model (tick model c) n 0
+  loads-square n least top = loads-by n least (le-trans (loaded-at-most model n) top) top (c .pins .gate) refl
 
   -- a tick of a channel that stands at tick j of n
-  module _ (n : ℕ) (least : 2 ≤ n) (most : n ≤ radixCounts (c .control .«bcd_mode»)) (j : ℕ) (now : Square model (coreOf c) n j) where
+  module _ (n : ℕ) (least : 2 ≤ n) (most : loadedCount model n ≤ radixCounts (c .control .«bcd_mode»)) (j : ℕ) (now : Square model (coreOf c) n j) where
     here : wave.In model (c .control .«bcd_mode») n least most (now .high) (now .age) c
     here = record { set = set-now (now .gate-high); state-is = now .counts; level-is = now .level; element-is = now .has-value }
 
@@ -155,8 +156,11 @@ module _ (model : PitType) (c : Channel) (mode : c .control .mode ≡ SquareWave
         (wave.inside model (c .control .«bcd_mode») n least most (now .high) (now .age) c inside (now .alike) here)
         (λ some. now .alike (wave.some-left model n (now .high) _ _ (moves n least model (now .high) (now .age) inside)))
 
+    pub square-sent : suc (now .age) ≡ halfTicks (now .high) n → neverLoaded c ≡ true → Sent (tick model c)
+    square-sent last never = wave.over-back model (c .control .«bcd_mode») n least most c (now .high) (now .age) last (now .alike) here never
+
     pub reloads-square : suc (now .age) ≡ halfTicks (now .high) n → (m : ℕ) → 2 ≤ m → m ≤ radixCounts (c .control .«bcd_mode»)
         → c .load .«reload_value» ≡ held (c .control .«bcd_mode») m → Arrived model (tick model c) m (beginOf (not (now .high)) m)
     reloads-square last m from-two top written =
-        begun m from-two top (not (now .high)) written
+        begun m from-two (le-trans (loaded-at-most model m) top) (not (now .high)) written
         (wave.over model (c .control .«bcd_mode») n least most m c written from-two top (now .high) (now .age) last (now .alike) here)

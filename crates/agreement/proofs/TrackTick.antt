@@ -1,6 +1,6 @@
 -- Every tick keeps the channel in step with the sheets' counter. Assumes nothing.
 use Prim.Native.Nat.{ℕ, suc, _+_, _<_, _≤_}
-use mathlib.Core.Bool.{Bool, true, false, false≢true, not, cond, _||_}
+use mathlib.Core.Bool.{Bool, true, false, false≢true, not, cond, _&&_, _||_}
 use mathlib.Core.Logic.{⊎-elim}
 use mathlib.Core.Path.{_≡_, refl, sym, ap, _∙_, subst}
 use native.Mathlib.Nat.{mod-eq-of-lt}
@@ -23,23 +23,24 @@ use Rattle.tick.specs.declared.due.Kind.the-variants.{Load}
 use Rattle.tick.specs.Due.{triggered, runs, dueIn, due}
 use Rattle.tick.specs.Kept.{TickKeeps}
 use Rattle.tick.specs.Level.{restLevel}
-use Rattle.tick.specs.Tick.{tick}
+use Rattle.tick.specs.Tick.{neverLoaded, tick}
 use Rattle.tick.proofs.Keeps as kept
 use Rattle.sheet.specs.Gate.{fallEffect}
 use Rattle.sheet.specs.Ticking.{highTicks, valueAfter, outputAfter, smallest}
-use Rattle.sheet.specs.Counter.{Fixed, leftOpen, fixedAt, Phase, awaitsCount, awaitsTrigger, loading, counting, lost, Counter}
-use Rattle.sheet.specs.CounterTick.{numberWritten, numberOf, toLoad, at, loadHalf, load, beginsLow, reloads, countTo, rest}
+use Rattle.sheet.specs.Counter.{Fixed, leftOpen, fixedAt, Phase, awaitsCount, awaitsTrigger, loading, counting, lost, Counter, standing}
+use Rattle.sheet.specs.CounterTick.{numberWritten, numberOf, toLoad, at, loadHalf, load, beginsLow, reloads, countTo, rest, counts}
 use Rattle.agreement.specs.Words.{sheetChip}
 use Rattle.agreement.specs.Gating.{underway}
-use Rattle.agreement.specs.Watching.{Watch, watching, watchTick, IsFixed, HoldsValue}
+use Rattle.agreement.specs.Watching.{Watch, watching, isOne, neverLoads, watchTick, IsFixed, HoldsValue}
 use Rattle.agreement.proofs.CountsDown.{countsDown, every-down}
 use Rattle.agreement.proofs.Idling.{state-stands, output-rests}
 use Rattle.agreement.proofs.SquarePlace.{halfTicks, Stands}
+use Rattle.agreement.proofs.TickLoads.{Sent, load-sent, kept-element}
 use Rattle.agreement.proofs.TickWaits.{still-come}
-use Rattle.agreement.proofs.TrackDown.{loads-down, counts-down}
-use Rattle.agreement.proofs.TrackRate.{loads-rate, counts-rate, reloads-rate, begins-rate}
+use Rattle.agreement.proofs.TrackDown.{loads-down, counts-down, down-top}
+use Rattle.agreement.proofs.TrackRate.{loads-rate, counts-rate, rate-sent, reloads-rate, begins-rate}
 use Rattle.agreement.proofs.TrackRest.{rests, put-off, count-rests, trigger-rests, down-counts-rest, paused-counts-rest, trigger-idle, deferred-due, held-idle, goes-idle}
-use Rattle.agreement.proofs.TrackSquare.{beginOf, loads-square, counts-square, reloads-square}
+use Rattle.agreement.proofs.TrackSquare.{beginOf, loads-square, counts-square, square-sent, reloads-square}
 use Rattle.agreement.proofs.Tracking.{coreOf, lastOf, view, Rules, Down, down, Rate, rate, Square, square, paused, Standing, Arrived, LoadDue, Loading, Counts, Lost, PhaseAt, Holds, Tracks, not-yet, tracked}
 use Rattle.agreement.proofs.Waiting.{reload-idle}
 use Rattle.agreement.proofs.Written.{Writes, number-writes, legal-number}
@@ -47,6 +48,18 @@ use Rattle.agreement.proofs.Written.{Writes, number-writes, legal-numbe
 -- what is said of the sheets' counter by mode is said of the record's
 counts-runs : (gate : Bool) (m : ChannelMode) → (not (fallEffect (modeNumber m) .stops) || gate) ≡ (triggered m || gate)
 counts-runs gate = every-mode (λ (m : ChannelMode). (not (fallEffect (modeNumber m) .stops) || gate) ≡ (triggered m || gate)) refl refl refl refl refl refl
+
+-- a count of 1 in modes 2 and 3, on both sides
+repeats-named : (m : ChannelMode) → (eqb (modeNumber m) 2 || eqb (modeNumber m) 3) ≡ doesRetrigger m
+repeats-named = every-mode (λ (m : ChannelMode). (eqb (modeNumber m) 2 || eqb (modeNumber m) 3) ≡ doesRetrigger m) refl refl refl refl refl refl
+
+never-alike : (c : Channel) → c .load .«load_type» ≡ SubsequentLoad
+    → ((eqb (modeNumber (c .control .mode)) 2 || eqb (modeNumber (c .control .mode)) 3) && isOne (lastOf (c .load .«load_type») (c .load .«reload_value»))) ≡ neverLoaded c
+never-alike c complete = rw (complete, repeats-named (c .control .mode)) refl
+
+both-true : (a b : Bool) → (a && b) ≡ true → (a ≡ true) × (b ≡ true)
+both-true true b is = (refl, is)
+both-true false b is = absurd (false≢true is)
 
 never-reloads : (n j : ℕ) (m : ChannelMode) → countsDown m ≡ true → reloads (modeNumber m) n j ≡ false
 never-reloads n j = every-down (λ (m : ChannelMode). reloads (modeNumber m) n j ≡ false) refl refl refl refl
@@ -189,6 +202,14 @@ module _ (model : PitType) (c : Channel) (one : Fixed Bool) (rules : Rules model
     first-load SoftwareTriggeredStrobe mode is-due n w least = loads-down model c n (ap countsDown mode) complete least (w .at-most) is-due (w .holds)
     first-load HardwareTriggeredStrobe mode is-due n w least = loads-down model c n (ap countsDown mode) complete least (w .at-most) is-due (w .holds)
 
+  -- S8: a load that was not made is due
+  loads-again : c .load .«load_type» ≡ SubsequentLoad → Sent (tick model c) → Loading false (coreOf (tick model c))
+  loads-again complete sent =
+      record {
+        waits = subst (λ (s : ChannelState). LoadDue s (tick model c .control .mode)) (sym (sent .waits)) tt;
+        complete = keeps .load-type-kept ∙ complete;
+      }
+
   -- a tick of a channel that stands at tick j of n
   module _ (n j : ℕ) (o : Fixed Bool) (v : Fixed ℕ) (late : Bool) (h : Counts model (coreOf c) n j)
       (holds : Holds model (counting n j) o v late one (coreOf c)) where
@@ -219,7 +240,7 @@ module _ (model : PitType) (c : Channel) (one : Fixed Bool) (rules : Rules model
 
     down-tick : (b : Bool) → runs c ≡ b → Down (coreOf c) n j → Then (cond b on (rest counter))
     down-tick true running d =
-        goes-on (never-reloads n (suc j) (c .control .mode) (d .down)) (counts-down model c n (d .down) (h .complete) (h .at-least) (h .at-most) j running d)
+        goes-on (never-reloads n (suc j) (c .control .mode) (d .down)) (counts-down model c n (d .down) (h .complete) (h .at-least) (rw (down-top model n (c .control .mode) (d .down)) at (h .at-most)) j running d)
     down-tick false still d =
         rests model o v one c (counting n j) late holds (goes-idle c (d .goes) still) (down-counts-rest model (coreOf c) n j h d)
 
@@ -240,13 +261,13 @@ module _ (model : PitType) (c : Channel) (one : Fixed Bool) (rules : Rules model
         (λ m w from.
         let from-two : 2 ≤ m = rw (r .rate) at from in
         begins-rate model c (r .rate) (h .complete) m from-two (w .at-most)
-        (reloads-rate model c (r .rate) (h .complete) n least (h .at-most) j r (eqb-true (suc j) n end) m from-two (w .at-most) (w .holds))))
+        (reloads-rate model c (r .rate) (h .complete) n least (rw (r .rate) at (h .at-most)) j r (eqb-true (suc j) n end) m from-two (w .at-most) (w .holds))))
     rate-tick false end r =
         let test = rate-tests (c .control .mode) (r .rate) (suc j) in
         let least : 2 ≤ n = rw (r .rate) at (h .at-least) in
         let inside : j < n = r .in-period in
         let other : suc j ≡ n → ⊥ = eqb-false (suc j) n end in
-        goes-on (test .0 ∙ or-false (eqb (suc j) n) ∙ end) (counts-rate model c (r .rate) (h .complete) n least (h .at-most) j r (omega arith))
+        goes-on (test .0 ∙ or-false (eqb (suc j) n) ∙ end) (counts-rate model c (r .rate) (h .complete) n least (rw (r .rate) at (h .at-most)) j r (omega arith))
 
     -- mode 3
     square-tests : (m : ChannelMode) → m ≡ SquareWaveGenerator → (k : ℕ) → (reloads (modeNumber m) n k ≡ reloads 3 n k) × (beginsLow (modeNumber m) n k ≡ beginsLow 3 n k)
@@ -259,7 +280,7 @@ module _ (model : PitType) (c : Channel) (one : Fixed Bool) (rules : Rules model
         let inside : suc (s .age) < halfTicks (s .high) n = ltb-true (suc (s .age)) (halfTicks (s .high) n) more in
         let fact = square-inside n j (s .high) (s .age) least (s .in-period) (s .stands) inside in
         goes-on (test .0 ∙ fact .0)
-        (counts-square model c (s .square) (h .complete) (rules .masked (s .square)) n least (h .at-most) j s (fact .1) inside)
+        (counts-square model c (s .square) (h .complete) (rules .masked (s .square)) n least (rw (s .square) at (h .at-most)) j s (fact .1) inside)
     square-tick s false more =
         let test = square-tests (c .control .mode) (s .square) (suc j) in
         let least : 2 ≤ n = rw (s .square) at (h .at-least) in
@@ -270,7 +291,7 @@ module _ (model : PitType) (c : Channel) (one : Fixed Bool) (rules : Rules model
         (loads (h .complete) (s .high) (counting n j) o v (ap waitsForReload (s .counts))
         (λ m w from.
         subst (Arrived model (tick model c) m) (begin-not (s .high) m)
-        (reloads-square model c (s .square) (h .complete) (rules .masked (s .square)) n least (h .at-most) j s last m (rw (s .square) at from) (w .at-most) (w .holds))))
+        (reloads-square model c (s .square) (h .complete) (rules .masked (s .square)) n least (rw (s .square) at (h .at-most)) j s last m (rw (s .square) at from) (w .at-most) (w .holds))))
 
     gate-runs : c .pins .gate ≡ true → runs c ≡ true
     gate-runs high = rw high (either-high (triggered (c .control .mode)))
@@ -290,17 +311,59 @@ module _ (model : PitType) (c : Channel) (one : Fixed Bool) (rules : Rules model
         subst (λ (b : Bool). Then (cond b on (rest counter))) (sym still)
         (rests model o v one c (counting n j) late holds (held-idle c (p .holds) still) (paused-counts-rest model (coreOf c) n j h p))
 
-    counting-tick : Tracks model (watchTick (sheetChip model) (watching counter late one)) (coreOf (tick model c))
-    counting-tick =
+    -- S8: the last tick of a period or half, where a count of 1 is written
+    sent-by : Standing model (coreOf c) n j → neverLoaded c ≡ true → runs c ≡ true → reloads (modeNumber (c .control .mode)) n (suc j) ≡ true → Sent (tick model c)
+    sent-by (down d) never running again = absurd (false≢true (sym (never-reloads n (suc j) (c .control .mode) (d .down)) ∙ again))
+    sent-by (rate r) never running again =
+        let test = rate-tests (c .control .mode) (r .rate) (suc j) in
+        let end : eqb (suc j) n ≡ true = sym (or-false (eqb (suc j) n)) ∙ sym (test .0) ∙ again in
+        rate-sent model c (r .rate) (h .complete) n (rw (r .rate) at (h .at-least)) (rw (r .rate) at (h .at-most)) j r (eqb-true (suc j) n end) never
+    sent-by (square s) never running again = ends (ltb (suc (s .age)) (halfTicks (s .high) n)) refl
+      where
+        ends : (b : Bool) → ltb (suc (s .age)) (halfTicks (s .high) n) ≡ b → Sent (tick model c)
+        ends true more =
+            let least : 2 ≤ n = rw (s .square) at (h .at-least) in
+            let inside : suc (s .age) < halfTicks (s .high) n = ltb-true (suc (s .age)) (halfTicks (s .high) n) more in
+            let fact = square-inside n j (s .high) (s .age) least (s .in-period) (s .stands) inside in
+            absurd (false≢true (sym (square-tests (c .control .mode) (s .square) (suc j) .0 ∙ fact .0) ∙ again))
+        ends false more =
+            let in-half : s .age < halfTicks (s .high) n = s .stands .in-half in
+            let last : suc (s .age) ≡ halfTicks (s .high) n = omega (arith, ltb-false (suc (s .age)) (halfTicks (s .high) n) more) in
+            square-sent model c (s .square) (h .complete) (rules .masked (s .square)) n (rw (s .square) at (h .at-least)) (rw (s .square) at (h .at-most)) j s last never
+    sent-by (paused p) never running again = absurd (false≢true (sym (low-holds c (p .repeats) (p .gate-low)) ∙ running))
+
+    back-or-on : (test : Bool) → (neverLoads counter && (counts counter && reloads (modeNumber (c .control .mode)) n (suc j))) ≡ test
+        → Then (cond test (standing counter loading (fixedAt true) leftOpen) (cond (counts counter) on (rest counter)))
+    back-or-on true is =
+        let one-written = both-true (neverLoads counter) _ is in
+        let running = both-true (counts counter) _ (one-written .1) in
+        let sent =
+            sent-by (h .there) (sym (never-alike c (h .complete)) ∙ one-written .0) (sym (counts-runs (c .pins .gate) (c .control .mode)) ∙ running .0) (running .1) in
+        settle loading (fixedAt true) leftOpen false (loads-again (h .complete) sent) (sent .is-high) tt
+    back-or-on false is =
         subst (λ (b : Bool). Then (cond b on (rest counter))) (sym (counts-runs (c .pins .gate) (c .control .mode))) (counting-by (h .there))
+
+    counting-tick : Tracks model (watchTick (sheetChip model) (watching counter late one)) (coreOf (tick model c))
+    counting-tick = back-or-on (neverLoads counter && (counts counter && reloads (modeNumber (c .control .mode)) n (suc j))) refl
 
   loading-by : (late : Bool) (o : Fixed Bool) (v : Fixed ℕ) → Holds model loading o v late one (coreOf c) → Loading late (coreOf c)
       → Tracks model (watchTick (sheetChip model) (watching (view (coreOf c) loading o v) late one)) (coreOf (tick model c))
   loading-by true o v holds l =
       put-off model o v one c loading true holds (deferred-due c (l .waits)) (record { waits = tt; complete = l .complete })
-  loading-by false o v holds l =
-      loads (l .complete) false loading o v (load-come (c .counter .«channel_state») (c .control .mode) (l .waits))
-      (first-load (l .complete) (c .control .mode) refl (is-due c (l .waits)))
+  loading-by false o v holds l = loaded-or-not (neverLoads (view (coreOf c) loading o v)) refl
+    where
+      loaded-or-not : (never : Bool) → neverLoads (view (coreOf c) loading o v) ≡ never
+          → Tracks model
+          (watching (cond never (standing (view (coreOf c) loading o v) loading (fixedAt true) v) (load (sheetChip model) false (view (coreOf c) loading o v))) false one)
+          (coreOf (tick model c))
+      loaded-or-not true is =
+          let never : neverLoaded c ≡ true = sym (never-alike c (l .complete)) ∙ is in
+          let sent = load-sent model c never (is-due c (l .waits)) in
+          settle loading (fixedAt true) v false (loads-again (l .complete) sent) (sent .is-high)
+          (subst (HoldsValue v (c .control .«bcd_mode»)) (sym (kept-element model c never (is-due c (l .waits)))) (holds .value-is))
+      loaded-or-not false is =
+          loads (l .complete) false loading o v (load-come (c .counter .«channel_state») (c .control .mode) (l .waits))
+          (first-load (l .complete) (c .control .mode) refl (is-due c (l .waits)))
 
   phase-ticks : (p : Phase) (o : Fixed Bool) (v : Fixed ℕ) (late : Bool) → Holds model p o v late one (coreOf c)
       → Tracks model (watchTick (sheetChip model) (watching (view (coreOf c) p o v) late one)) (coreOf (tick model c))

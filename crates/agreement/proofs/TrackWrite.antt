@@ -37,7 +37,7 @@ use Rattle.agreement.proofs.GateTables.{standing-not}
 use Rattle.agreement.proofs.Square.{flagOf}
 use Rattle.agreement.proofs.SquareOther.{high-stands, longer-stands, shorter-stands, longer-value, shorter-value}
 use Rattle.agreement.proofs.SquarePlace.{place as placeIn, Stands, high-there}
-use Rattle.agreement.proofs.SquareValue.{halfValue, waitsAtZero, value-odd}
+use Rattle.agreement.proofs.SquareValue.{halfValue, loadedCount, waitsAtZero, value-odd}
 use Rattle.agreement.proofs.TrackSquare.{value-there}
 use Rattle.agreement.proofs.Tracking.{Core, coreOf, view, RuleIn, Rules, TriggerAwaited, down, rate, Square, square, paused, Standing, AwaitsTrigger, WaitsIn, Loading, Counts, Lost, PhaseAt, Tracks, tracked}
 
@@ -99,7 +99,7 @@ module _ (model : PitType) (one : Fixed Bool) (v : Fixed ℕ) (late : Bool) (c :
 
   -- what the watch comes to in the mode m, and that it is so
   abbrev phaseThen : ℕ → Phase → Phase
-  phaseThen m p = countPhase chip defer m (c .control .«bcd_mode») one x p
+  phaseThen m p = countPhase chip defer m one x p
 
   abbrev lateThen : ℕ → Phase → Bool
   lateThen m p = cond (makesDue m p) (putsOff defer m p one) late
@@ -353,11 +353,11 @@ module _ (model : PitType) (one : Fixed Bool) (v : Fixed ℕ) (late : Bool) (c :
             gate-low = q .gate-low;
           })
 
-      lands-at : disturbs chip 3 n j x ≡ true → otherHalf (radixCounts (c .control .«bcd_mode»)) n j ≡ counting m j → 2 ≤ m → m ≤ radixCounts (c .control .«bcd_mode»)
+      lands-at : disturbs chip 3 n j x ≡ true → otherHalf n j ≡ counting m j → 2 ≤ m → loadedCount model m ≤ radixCounts (c .control .«bcd_mode»)
           → Entered 3 (counting n j)
       lands-at some is least most =
           waits-there 3 SquareWaveGenerator mode refl (counting n j) (h .complete) (counting m j) (rw some is)
-          (record { complete = refl; at-least = rw mode least; at-most = most; there = other-stands (h .there) })
+          (record { complete = refl; at-least = rw mode least; at-most = rw mode most; there = other-stands (h .there) })
 
     -- on the 8254
     module _ (is : model ≡ Model8254) (high : squareHigh n j ≡ true) (differs : n % 2 ≡ x % 2 → ⊥) (some : disturbs chip 3 n j x ≡ true) where
@@ -376,28 +376,30 @@ module _ (model : PitType) (one : Fixed Bool) (v : Fixed ℕ) (late : Bool) (c :
       on-8254 : (P : PitType → Type 0) → P Model8254 → P model
       on-8254 P p = subst P (sym is) p
 
-      even-by : n % 2 ≡ 0 → (largest : Bool) → eqb n (radixCounts (c .control .«bcd_mode»)) ≡ largest → Entered 3 (counting n j)
-      even-by even true top =
-          waits-there 3 SquareWaveGenerator mode refl (counting n j) (h .complete) lost (rw (some, eq-eqb (n % 2) 0 even, top) refl)
-          (record { complete = refl; come = λ other. standing-not model c n j (h .there) })
-      even-by even false below =
-          let not-top : n ≡ radixCounts (c .control .«bcd_mode») → ⊥ = eqb-false n _ below in
-          let most : n ≤ radixCounts (c .control .«bcd_mode») = h .at-most in
+      -- what it loads is what the count loads
+      top : (m : ℕ) → m - m % 2 ≡ n - n % 2 → loadedCount model m ≤ radixCounts (c .control .«bcd_mode»)
+      top m same =
+          let most : loadedCount model n ≤ radixCounts (c .control .«bcd_mode») = rw mode at (h .at-most) in
+          on-8254 (λ (k : PitType). loadedCount k m ≤ radixCounts (c .control .«bcd_mode»))
+          (subst (λ (e : ℕ). e ≤ radixCounts (c .control .«bcd_mode»)) (sym same)
+          (subst (λ (k : PitType). loadedCount k n ≤ radixCounts (c .control .«bcd_mode»)) is most))
+
+      even-by : n % 2 ≡ 0 → Entered 3 (counting n j)
+      even-by even =
           let odd : w % 2 ≡ 1 = omega arith in
           let next : suc n % 2 ≡ 1 = omega arith in
           lands-at high (suc n) (omega (arith, inside)) (longer-stands n j inside high)
           (on-8254 (λ (k : PitType). halfValue (sheetChip k) n true j ≡ halfValue (sheetChip k) (suc n) true j) (longer-value n j even))
           (λ left. on-8254 (λ (k : PitType). waitsAtZero k w true ≡ waitsAtZero k (suc n) true) (eq-eqb (w % 2) 1 odd ∙ sym (eq-eqb (suc n % 2) 1 next)))
           some
-          (rw (eq-eqb (n % 2) 0 even, below) refl)
+          (rw (eq-eqb (n % 2) 0 even) refl)
           (omega (arith, least))
-          (omega arith)
+          (top (suc n) (omega arith))
 
       odd-by : n % 2 ≡ 1 → (more : Bool) → ltb (suc j) (highTicks n) ≡ more → Entered 3 (counting n j)
       odd-by odd true test =
           let more : suc j < highTicks n = ltb-true (suc j) (highTicks n) test in
           let even : w % 2 ≡ 0 = omega arith in
-          let most : n ≤ radixCounts (c .control .«bcd_mode») = h .at-most in
           lands-at high (n - 1) (omega arith) (shorter-stands n j odd more)
           (on-8254 (λ (k : PitType). halfValue (sheetChip k) n true j ≡ halfValue (sheetChip k) (n - 1) true j) (shorter-value n j odd))
           (λ left. on-8254 (λ (k : PitType). waitsAtZero k w true ≡ waitsAtZero k (n - 1) true)
@@ -405,14 +407,14 @@ module _ (model : PitType) (one : Fixed Bool) (v : Fixed ℕ) (late : Bool) (c :
           some
           (rw (ne-eqb (n % 2) 0 (λ q. omega arith), test) refl)
           (omega (arith, least))
-          (omega arith)
+          (top (n - 1) (omega arith))
       odd-by odd false test =
           let last : highTicks n ≤ suc j = ltb-false (suc j) (highTicks n) test in
           let none : halfValue (sheetChip model) n true j ≡ 0 = on-8254 (λ (k : PitType). halfValue (sheetChip k) n true j ≡ 0) (value-odd chip8254 n true j odd ∙ omega arith) in
-          lands-at high n inside (high-stands n j inside high) refl (λ left. absurd (omega arith)) some (rw (ne-eqb (n % 2) 0 (λ q. omega arith), test) refl) least (h .at-most)
+          lands-at high n inside (high-stands n j inside high) refl (λ left. absurd (omega arith)) some (rw (ne-eqb (n % 2) 0 (λ q. omega arith), test) refl) least (top n refl)
 
       disturbed : (even : Bool) → eqb (n % 2) 0 ≡ even → Entered 3 (counting n j)
-      disturbed true is-even = even-by (eqb-true (n % 2) 0 is-even) (eqb n (radixCounts (c .control .«bcd_mode»))) refl
+      disturbed true is-even = even-by (eqb-true (n % 2) 0 is-even)
       disturbed false is-odd =
           let not-even : n % 2 ≡ 0 → ⊥ = eqb-false (n % 2) 0 is-odd in
           odd-by (omega arith) (ltb (suc j) (highTicks n)) refl

@@ -22,7 +22,7 @@ use Rattle.channel.specs.declared.ReloadFlag.the-variants.{Normal}
 use Rattle.channel.specs.declared.Reloading.{Reloading}
 use Rattle.channel.specs.declared.RwMode.{RwMode}
 use Rattle.channel.specs.declared.RwMode.the-variants.{Lsb, Msb, LsbMsb}
-use Rattle.channel.specs.Modes.{modeNumber}
+use Rattle.channel.specs.Modes.{byMode, modeNumber}
 use Rattle.channel.specs.Shared.{waitsForReload}
 use Rattle.channel.specs.Queries.{doesRetrigger}
 use Rattle.mode.specs.Mode.{squareMask}
@@ -36,7 +36,7 @@ use Rattle.agreement.specs.Gating.{underway, goesOn}
 use Rattle.agreement.specs.Watching.{Watch, unprogrammed, watching, IsFixed, HoldsValue}
 use Rattle.agreement.proofs.CountsDown.{countsDown, endsHigh, isStrobe}
 use Rattle.agreement.proofs.SquarePlace.{Stands}
-use Rattle.agreement.proofs.SquareValue.{halfValue, waitsAtZero}
+use Rattle.agreement.proofs.SquareValue.{halfValue, loadedCount, waitsAtZero}
 use Rattle.agreement.proofs.Square.{flagOf}
 
 -- what the chip has of a channel's record: all but the output latch, the marks and the cycles in state
@@ -182,10 +182,14 @@ pub record Loading (late : Bool) (c : Core) : Type 0 where
   pub waits : WaitsIn late (c .state) (c .control .mode)
   pub complete : c .load .«load_type» ≡ SubsequentLoad
 
+-- what is loaded of a count is not above the largest. In mode 3 on the 8254 the half that S4 leaves may be that of the count above the largest, which loads the largest
+abbrev pub topOf : PitType → ChannelMode → ℕ → ℕ
+topOf model m n = byMode n n n (loadedCount model n) n n m
+
 pub record Counts (model : PitType) (c : Core) (n j : ℕ) : Type 0 where
   pub complete : c .load .«load_type» ≡ SubsequentLoad
   pub at-least : smallest (modeNumber (c .control .mode)) ≤ n
-  pub at-most : n ≤ radixCounts (c .control .«bcd_mode»)
+  pub at-most : topOf model (c .control .mode) n ≤ radixCounts (c .control .«bcd_mode»)
   pub there : Standing model c n j
 
 -- a channel that stands there, and shows what the sheets say of it

@@ -4,13 +4,12 @@ use Prim.Native.Nat.{ℕ, suc, _-_, _%_}
 use mathlib.Core.Bool.{Bool, true, false, not, cond, _&&_, _||_}
 use mathlib.Core.Path.{_≡_}
 use lib.Dec.{eqb, ltb}
-use Rattle.numbers.specs.Radix.{radixCounts}
 use Rattle.channel.specs.declared.Channel.{Channel}
 use Rattle.sheet.specs.ControlByte.{Access, lowByte, highByte, lowThenHigh}
 use Rattle.sheet.specs.Gate.{fallEffect, riseEffect}
 use Rattle.sheet.specs.Ticking.{Chip, chip8253, chip8254, held, highTicks, squareHigh}
 use Rattle.sheet.specs.Counter.{Fixed, leftOpen, fixedAt, Phase, awaitsCount, awaitsTrigger, loading, counting, lost, Counter, standing, programmed}
-use Rattle.sheet.specs.CounterTick.{rest, tick}
+use Rattle.sheet.specs.CounterTick.{reloads, rest, counts, tick}
 use Rattle.sheet.specs.CounterWrite.{onCount, write}
 use Rattle.sheet.specs.CounterGate.{gateTo}
 
@@ -36,12 +35,27 @@ gateOf (watching k late one) = k .gate
 abbrev pub watchReset : Watch → Watch
 watchReset w = unprogrammed (gateOf w) (fixedAt false)
 
+-- S8: a count of 1 in modes 2 and 3, which "is never loaded by a tick" (02)
+abbrev pub isOne : Fixed ℕ → Bool
+isOne leftOpen = false
+isOne (fixedAt w) = eqb w 1
+
+abbrev pub neverLoads : Counter → Bool
+neverLoads k = (eqb (k .mode) 2 || eqb (k .mode) 3) && isOne (k .count)
+
+-- .. "the channel stays in, or returns to, `WaitingForLoadCycle` with output high": the load is still due, or is due again at the end of a period or half
+abbrev pub loadTick : Chip → Counter → Counter
+loadTick chip k = cond (neverLoads k) (standing k loading (fixedAt true) (k .value)) (tick chip k)
+
+abbrev pub countTick : Chip → ℕ → ℕ → Counter → Counter
+countTick chip n j k = cond (neverLoads k && (counts k && reloads (k .mode) n (suc j))) (standing k loading (fixedAt true) leftOpen) (tick chip k)
+
 -- S1: a tick that puts a load off, "one tick later once the board's defer flag is set"; it loads nothing and counts nothing
 abbrev pub tickLate : Phase → Bool → Chip → Counter → Counter
-tickLate loading late chip k = cond late (rest k) (tick chip k)
+tickLate loading late chip k = cond late (rest k) (loadTick chip k)
 tickLate awaitsCount late chip k = tick chip k
 tickLate awaitsTrigger late chip k = tick chip k
-tickLate (counting n j) late chip k = tick chip k
+tickLate (counting n j) late chip k = countTick chip n j k
 tickLate lost late chip k = tick chip k
 
 abbrev pub watchTick : Chip → Watch → Watch
@@ -113,8 +127,8 @@ untriggered mode one = eqb mode 5 && isKnown one false
 abbrev pub firstPhase : Bool → ℕ → Fixed Bool → Phase
 firstPhase defer mode one = cond (strays defer mode one) lost (cond (untriggered mode one) loading (onCount mode awaitsCount))
 
--- S4: "on the 8254, if its parity differs, the running high half is one tick longer or shorter": it lasts as long as that of the next count of the new parity. The
--- largest count has none above it, and the last tick of an odd count's half comes all the same
+-- S4: "on the 8254, if its parity differs, the running high half is one tick longer or shorter": after an even count it is the half of the count above it, and after
+-- an odd one that of the count below it, but for the last tick of such a half, which comes all the same
 abbrev pub parts : Chip → Bool
 parts chip8253 = false
 parts chip8254 = true
@@ -122,17 +136,16 @@ parts chip8254 = true
 abbrev pub disturbs : Chip → ℕ → ℕ → ℕ → ℕ → Bool
 disturbs chip mode n j low = parts chip && (eqb mode 3 && (squareHigh n j && not (eqb (n % 2) (low % 2))))
 
-abbrev pub otherHalf : ℕ → ℕ → ℕ → Phase
-otherHalf largest n j =
-    cond (eqb (n % 2) 0) (cond (eqb n largest) lost (counting (suc n) j)) (cond (ltb (suc j) (highTicks n)) (counting (n - 1) j) (counting n j))
+abbrev pub otherHalf : ℕ → ℕ → Phase
+otherHalf n j = cond (eqb (n % 2) 0) (counting (suc n) j) (cond (ltb (suc j) (highTicks n)) (counting (n - 1) j) (counting n j))
 
 -- where a complete count leads, its lowest bit being that of the byte low
-abbrev pub countPhase : Chip → Bool → ℕ → Bool → Fixed Bool → ℕ → Phase → Phase
-countPhase chip defer mode bcd one low awaitsCount = firstPhase defer mode one
-countPhase chip defer mode bcd one low awaitsTrigger = onCount mode awaitsTrigger
-countPhase chip defer mode bcd one low loading = onCount mode loading
-countPhase chip defer mode bcd one low (counting n j) = cond (disturbs chip mode n j low) (otherHalf (radixCounts bcd) n j) (onCount mode (counting n j))
-countPhase chip defer mode bcd one low lost = onCount mode lost
+abbrev pub countPhase : Chip → Bool → ℕ → Fixed Bool → ℕ → Phase → Phase
+countPhase chip defer mode one low awaitsCount = firstPhase defer mode one
+countPhase chip defer mode one low awaitsTrigger = onCount mode awaitsTrigger
+countPhase chip defer mode one low loading = onCount mode loading
+countPhase chip defer mode one low (counting n j) = cond (disturbs chip mode n j low) (otherHalf n j) (onCount mode (counting n j))
+countPhase chip defer mode one low lost = onCount mode lost
 
 -- the byte that has the count's lowest bit
 abbrev pub lowOf : Access → Fixed ℕ → ℕ → ℕ
@@ -142,17 +155,21 @@ lowOf lowThenHigh leftOpen byte = byte
 lowOf lowThenHigh (fixedAt low) byte = low
 
 -- S7: in mode 0 "with one-byte access low with the tick that loads", and as it was till then
-abbrev pub staysHigh : Access → ℕ → Bool
-staysHigh lowByte mode = eqb mode 0
-staysHigh highByte mode = eqb mode 0
-staysHigh lowThenHigh mode = false
+abbrev pub keepsOutput : Access → ℕ → Bool
+keepsOutput lowByte mode = eqb mode 0
+keepsOutput highByte mode = eqb mode 0
+keepsOutput lowThenHigh mode = false
+
+-- 01: in mode 0 "the low byte of a two-byte load drops the output", on the 8253 too, whose sheet does not say which byte does
+abbrev pub dropsOutput : Access → Fixed ℕ → ℕ → Bool
+dropsOutput access first mode = not (completes access first) && eqb mode 0
 
 -- a byte written, the departures put in
 abbrev pub written : Chip → Bool → Fixed Bool → Counter → ℕ → Counter → Counter
 written chip defer one k byte new =
     standing new
-    (cond (completes (k .access) (k .first)) (countPhase chip defer (k .mode) (k .bcd) one (lowOf (k .access) (k .first) byte) (k .phase)) (new .phase))
-    (cond (staysHigh (k .access) (k .mode)) (k .output) (new .output))
+    (cond (completes (k .access) (k .first)) (countPhase chip defer (k .mode) one (lowOf (k .access) (k .first) byte) (k .phase)) (new .phase))
+    (cond (keepsOutput (k .access) (k .mode)) (k .output) (cond (dropsOutput (k .access) (k .first) (k .mode)) (fixedAt false) (new .output)))
     (new .value)
 
 -- S1: a write that makes a load due makes it late where the defer flag is set; not the first count of mode 4 after mode 1
