@@ -332,19 +332,19 @@ module _ (model : PitType) (c : Channel) (one : Fixed Bool) (rules : Rules model
             square-sent model c (s .square) (h .complete) (rules .masked (s .square)) n (rw (s .square) at (h .at-least)) (rw (s .square) at (h .at-most)) j s last never
     sent-by (paused p) never running again = absurd (false≢true (sym (low-holds c (p .repeats) (p .gate-low)) ∙ running))
 
-    back-or-on : (test : Bool) → (neverLoads counter && (counts counter && reloads (modeNumber (c .control .mode)) n (suc j))) ≡ test
+    back-or-on : (test : Bool) → (counts counter && (reloads (modeNumber (c .control .mode)) n (suc j) && neverLoads counter)) ≡ test
         → Then (cond test (standing counter loading (fixedAt true) leftOpen) (cond (counts counter) on (rest counter)))
     back-or-on true is =
-        let one-written = both-true (neverLoads counter) _ is in
-        let running = both-true (counts counter) _ (one-written .1) in
+        let running = both-true (counts counter) _ is in
+        let last = both-true (reloads (modeNumber (c .control .mode)) n (suc j)) _ (running .1) in
         let sent =
-            sent-by (h .there) (sym (never-alike c (h .complete)) ∙ one-written .0) (sym (counts-runs (c .pins .gate) (c .control .mode)) ∙ running .0) (running .1) in
+        sent-by (h .there) (sym (never-alike c (h .complete)) ∙ last .1) (sym (counts-runs (c .pins .gate) (c .control .mode)) ∙ running .0) (last .0) in
         settle loading (fixedAt true) leftOpen false (loads-again (h .complete) sent) (sent .is-high) tt
     back-or-on false is =
         subst (λ (b : Bool). Then (cond b on (rest counter))) (sym (counts-runs (c .pins .gate) (c .control .mode))) (counting-by (h .there))
 
     counting-tick : Tracks model (watchTick (sheetChip model) (watching counter late one)) (coreOf (tick model c))
-    counting-tick = back-or-on (neverLoads counter && (counts counter && reloads (modeNumber (c .control .mode)) n (suc j))) refl
+    counting-tick = back-or-on (counts counter && (reloads (modeNumber (c .control .mode)) n (suc j) && neverLoads counter)) refl
 
   loading-by : (late : Bool) (o : Fixed Bool) (v : Fixed ℕ) → Holds model loading o v late one (coreOf c) → Loading late (coreOf c)
       → Tracks model (watchTick (sheetChip model) (watching (view (coreOf c) loading o v) late one)) (coreOf (tick model c))

@@ -48,7 +48,7 @@ abbrev pub loadTick : Chip → Counter → Counter
 loadTick chip k = cond (neverLoads k) (standing k loading (fixedAt true) (k .value)) (tick chip k)
 
 abbrev pub countTick : Chip → ℕ → ℕ → Counter → Counter
-countTick chip n j k = cond (neverLoads k && (counts k && reloads (k .mode) n (suc j))) (standing k loading (fixedAt true) leftOpen) (tick chip k)
+countTick chip n j k = cond (counts k && (reloads (k .mode) n (suc j) && neverLoads k)) (standing k loading (fixedAt true) leftOpen) (tick chip k)
 
 -- S1: a tick that puts a load off, "one tick later once the board's defer flag is set"; it loads nothing and counts nothing
 abbrev pub tickLate : Phase → Bool → Chip → Counter → Counter

@@ -16,7 +16,7 @@ use Rattle.sheet.specs.Ticking.{Chip}
 use Rattle.sheet.specs.Counter.{Fixed, leftOpen, fixedAt, Counter}
 use Rattle.agreement.specs.Words.{sheetChip}
 use Rattle.agreement.specs.Watching.{Watch, unprogrammed, watching, oneNow, unknown, watchProgram, watchReset, watchTick, watchGate, watchWrite, watchCounts, watchCycle}
-use Rattle.waveform.specs.Heard.{heardControl, heard, unlessRefused, hears, watchOver}
+use Rattle.waveform.specs.Heard.{heardControl, heard, unlessRefused, hears, defersAfter, defersOver, watchOver}
 use Rattle.waveform.specs.Opened.{afterOne, tickOpen}
 use Rattle.waveform.specs.Pin.{NewIsKnown}
 
@@ -67,33 +67,34 @@ control-known i noCounter w known = known
 control-known i (latchCounter n) w known = known
 control-known i (program n access mode bcd) w known = either (eqb n i) (watchProgram w access mode bcd) w (program-known w access mode bcd known) known
 
-heard-known : (i : ℕ) (b : Board) (o : Operation) (w : Watch) → Known w → Known (heard i b o w)
-heard-known i b (WritePort port byte events place) w known =
-    either (eqb port (0x40 + i)) (watchWrite (sheetChip (b .model)) (b .defer) w byte) (cond (eqb port 0x43) (heardControl i (requestOf byte) w) w)
-    (write-known (sheetChip (b .model)) (b .defer) w byte known)
+heard-known : (i : ℕ) (b : Board) (defers : Bool) (o : Operation) (w : Watch) → Known w → Known (heard i b defers o w)
+heard-known i b defers (WritePort port byte events place) w known =
+    either (eqb port (0x40 + i)) (watchWrite (sheetChip (b .model)) defers w byte) (cond (eqb port 0x43) (heardControl i (requestOf byte) w) w)
+    (write-known (sheetChip (b .model)) defers w byte known)
     (either (eqb port 0x43) (heardControl i (requestOf byte) w) w (control-known i (requestOf byte) w known) known)
-heard-known i b (ReadPort port) w known = known
-heard-known i b (SetChannelGate n level events place) w known = either (eqb n i) (watchGate w level) w (gate-known w level known) known
-heard-known i b (Counts n number) w known = either (eqb n i) (watchCounts w number) w (counts-known w number known) known
-heard-known i b (LoadCycle n) w known = either (eqb n i) (watchCycle w) w (cycle-known w known) known
-heard-known i b (CatchUp given) w known = known
-heard-known i b (Run given) w known = known
-heard-known i b Reset w known = refl
-heard-known i b (GetOutputState n) w known = known
-heard-known i b (GetChannelCount n) w known = known
-heard-known i b (DoesChannelRetrigger n) w known = known
-heard-known i b (IsDirty n) w known = known
-heard-known i b GetTimerAccum w known = known
-heard-known i b (WorkOff stated events place) w known = tick-known (sheetChip (b .model)) (madeBy (step b (WorkOff stated events place) .reply)) w known
+heard-known i b defers (ReadPort port) w known = known
+heard-known i b defers (SetChannelGate n level events place) w known = either (eqb n i) (watchGate w level) w (gate-known w level known) known
+heard-known i b defers (Counts n number) w known = either (eqb n i) (watchCounts w number) w (counts-known w number known) known
+heard-known i b defers (LoadCycle n) w known = either (eqb n i) (watchCycle w) w (cycle-known w known) known
+heard-known i b defers (CatchUp given) w known = known
+heard-known i b defers (Run given) w known = known
+heard-known i b defers Reset w known = refl
+heard-known i b defers (GetOutputState n) w known = known
+heard-known i b defers (GetChannelCount n) w known = known
+heard-known i b defers (DoesChannelRetrigger n) w known = known
+heard-known i b defers (IsDirty n) w known = known
+heard-known i b defers GetTimerAccum w known = known
+heard-known i b defers (WorkOff stated events place) w known = tick-known (sheetChip (b .model)) (madeBy (step b (WorkOff stated events place) .reply)) w known
 
 unless-known : (reply : Reply Value) (old new : Watch) → Known old → Known new → Known (unlessRefused reply old new)
 unless-known (refused number) old new a b = a
 unless-known (accepted value) old new a b = b
 
-over-known : (i : ℕ) (b : Board) (os : List Operation) (w : Watch) → Known w → Known (watchOver i b os w)
-over-known i b [] w known = known
-over-known i b (o ∷ os) w known =
-    over-known i (step b o .board) os (hears i b o w) (unless-known (step b o .reply) w (heard i b o w) known (heard-known i b o w known))
+over-known : (i : ℕ) (b : Board) (os : List Operation) (defers : Bool) (w : Watch) → Known w → Known (watchOver i b os defers w)
+over-known i b [] defers w known = known
+over-known i b (o ∷ os) defers w known =
+    over-known i (step b o .board) os (defersAfter b o defers) (hears i b defers o w)
+    (unless-known (step b o .reply) w (heard i b defers o w) known (heard-known i b defers o w known))
 
 never-open : (defer : Bool) (mode : ℕ) (one : Fixed Bool) → unknown one ≡ false → tickOpen defer mode one ≡ false
 never-open defer mode one known = rw known (go (eqb mode 4) defer)
@@ -104,6 +105,6 @@ never-open defer mode one known = rw known (go (eqb mode 4) defer)
     go false b = refl
 
 pub new-is-known : NewIsKnown
-new-is-known b start new i os defer mode =
-    never-open defer mode (oneNow mode (afterOne (watchOver i b os start)))
-    (set-known mode (afterOne (watchOver i b os start)) (over-known i b os start (subst Known (sym (new .1 .1 .1)) refl)))
+new-is-known b defers start new i os mode =
+    never-open (defersOver b os defers) mode (oneNow mode (afterOne (watchOver i b os defers start)))
+    (set-known mode (afterOne (watchOver i b os defers start)) (over-known i b os defers start (subst Known (sym (new .1 .1 .1 .1)) refl)))

@@ -1,4 +1,5 @@
 pub mod Turns
+pub mod Defers
 pub mod Follows
 pub mod Running
 pub mod Stages

@@ -16,7 +16,7 @@ use Rattle.sheet.specs.Ticking.{Chip}
 use Rattle.sheet.specs.Counter.{Fixed, leftOpen, fixedAt, Phase, awaitsCount, loading, Counter, programmed}
 use Rattle.sheet.specs.CounterWrite.{outputOnCount, outputOnFirst}
 use Rattle.sheet.specs.CounterGate.{edge}
-use Rattle.agreement.specs.Watching.{Watch, unprogrammed, watching, oneNow, gateOf, watchProgram, afterFall, edged, watchGate, staysHigh, firstPhase, makesDue, putsOff, watchWrite}
+use Rattle.agreement.specs.Watching.{Watch, unprogrammed, watching, oneNow, gateOf, watchProgram, afterFall, edged, watchGate, keepsOutput, firstPhase, makesDue, putsOff, watchWrite}
 use Rattle.agreement.proofs.Departures.{first-plain}
 use Rattle.waveform.specs.Opened.{bytesIn, writtenIn, triggered, afterOne, tickOpen}
 
@@ -100,7 +100,7 @@ module _ (chip : Chip) (defer : Bool) (m : ChannelMode) (bcd : Bool) (one : Fixe
   made-due k = ap (λ (b : Bool). watching k (cond b late false) one) (always-due mode)
 
   abbrev firstOutput : Fixed Bool → Fixed Bool
-  firstOutput o = cond (firstByteStops mode) (outputOnFirst chip o) o
+  firstOutput o = cond (eqb mode 0) (fixedAt false) (cond (firstByteStops mode) (outputOnFirst chip o) o)
 
   first-byte : (x : ℕ) (o : Fixed Bool)
       → watchWrite chip defer (watching (counter lowThenHigh leftOpen leftOpen awaitsCount o) false one) x
@@ -110,7 +110,7 @@ module _ (chip : Chip) (defer : Bool) (m : ChannelMode) (bcd : Bool) (one : Fixe
 
   -- the output that the bytes leave
   abbrev outputIn : Access → Fixed Bool → Fixed Bool
-  outputIn access o = cond (staysHigh access mode) o (outputOnCount mode o)
+  outputIn access o = cond (keepsOutput access mode) o (outputOnCount mode o)
 
   abbrev outputThen : Access → Fixed Bool → Fixed Bool
   outputThen lowByte o = outputIn lowByte o

@@ -1,7 +1,7 @@
 -- The sheets' counter while its gate moves: in modes 0 and 4 it counts the ticks made with the gate high; in modes 2 and 3 a fall holds it with its output high.
 -- Assumes nothing.
 use Prim.Native.Nat.{ℕ, suc, _<_}
-use mathlib.Core.Bool.{Bool, true, false, not, cond, _||_}
+use mathlib.Core.Bool.{Bool, true, false, not, cond, _&&_, _||_}
 use mathlib.Core.List.{List, [], _∷_}
 use mathlib.Core.Logic.{_⊎_, ⊎-elim}
 use mathlib.Core.Path.{_≡_, refl, sym, ap, _∙_, subst}
@@ -14,9 +14,9 @@ use Rattle.channel.proofs.Pick.{pick-same}
 use Rattle.sheet.specs.ControlByte.{Access}
 use Rattle.sheet.specs.Gate.{fallEffect}
 use Rattle.sheet.specs.Ticking.{Chip, downValue, valueAfter, outputAfter}
-use Rattle.sheet.specs.Counter.{Fixed, fixedAt, counting, Counter, standing}
-use Rattle.sheet.specs.CounterTick.{pulse, countTo, rest}
-use Rattle.agreement.specs.Watching.{Watch, watching, watchTick, watchGate}
+use Rattle.sheet.specs.Counter.{Fixed, leftOpen, fixedAt, loading, counting, Counter}
+use Rattle.sheet.specs.CounterTick.{pulse, reloads, countTo, rest}
+use Rattle.agreement.specs.Watching.{Watch, watching, neverLoads, watchTick, watchGate}
 use Rattle.waveform.specs.Pin.{pausedOutput}
 use Rattle.waveform.specs.Pins.{Pulse, gateAt, clock, pulsed, lastLevel, MayMove, Undisturbed, highClocks, lastCounted}
 use Rattle.waveform.proofs.Written.{counter}
@@ -108,7 +108,10 @@ module _ (chip : Chip) (access : Access) (m : ChannelMode) (bcd : Bool) (first c
 
   held-tick : (late : Bool) → watchTick chip (watching (stays false (fixedAt true)) late one) ≡ watching (stays false (fixedAt true)) false one
   held-tick late =
-      ap (λ (b : Bool). watching (cond (not b || false) (countTo chip n (suc p) (stays false (fixedAt true))) (rest (stays false (fixedAt true)))) false one)
+      ap
+      (λ (b : Bool). watching
+      (cond ((not b || false) && (reloads mode n (suc p) && neverLoads (stays false (fixedAt true)))) (counter chip access mode bcd first count one false loading (fixedAt true) leftOpen)
+      (cond (not b || false) (countTo chip n (suc p) (stays false (fixedAt true))) (rest (stays false (fixedAt true))))) false one)
       (raises-stops m raises)
       ∙ ap (λ (o : Fixed Bool). watching (stays false o) false one) (pick-same (pulse mode) (fixedAt true))
 

@@ -20,8 +20,8 @@ use Rattle.board.specs.Outcome.{Value}
 use Rattle.step.specs.Operation.{Operation, WritePort}
 use Rattle.step.specs.Accepted.{IsAccepted, AllAccepted}
 use Rattle.step.specs.Step.{step, steps}
-use Rattle.step.specs.Time.{isTimeCall}
-use Rattle.step.proofs.Kept.{time-kept, settings-kept}
+use Rattle.step.proofs.Accepted.{by-reply}
+use Rattle.step.proofs.Kept.{settings-kept}
 use Rattle.sheet.specs.ControlByte.{Access, lowByte, highByte, lowThenHigh, Request, program, requestOf}
 use Rattle.sheet.specs.Gate.{fallEffect, riseEffect}
 use Rattle.sheet.specs.Output.{outputAfterModeSet}
@@ -32,7 +32,7 @@ use Rattle.agreement.specs.Words.{sheetChip}
 use Rattle.agreement.specs.Watching.{Watch, unprogrammed, watching, oneNow, watchProgram, watchTick, watchGate, watchWrite, putsOff, ShowsIn}
 use Rattle.agreement.proofs.Written.{legal-number}
 use Rattle.waveform.specs.Follows.{Starts}
-use Rattle.waveform.specs.Heard.{heardControl, heard, unlessRefused, hears, watchOver, AllBytes}
+use Rattle.waveform.specs.Heard.{heardControl, catchesUp, heard, unlessRefused, hears, defersAfter, defersOver, watchOver, AllBytes}
 use Rattle.waveform.specs.Opened.{bytesIn, writtenIn, triggered, gateCall, byteCalls, triggerCalls, opening, afterOne, laterTicks, Opened, before, after, lateTicks}
 use Rattle.waveform.specs.Pin.{AtThePin, pausedOutput, PortToPin, GatePauses, TriggerRestarts, FallHolds}
 use Rattle.waveform.specs.Pins.{Pulse, gateAt, clock, clocks, pinsOver, pulsed, clocksIn, lastLevel, Undisturbed, highClocks, lastCounted}
@@ -45,9 +45,10 @@ use Rattle.waveform.proofs.Stages.{Stage, due, run, next, run-after, la
 use Rattle.waveform.proofs.Written.{Written, written-on}
 
 -- one list after another
-over-both : (i : ℕ) (b : Board) (os ps : List Operation) (w : Watch) → watchOver i b (os ++ ps) w ≡ watchOver i (steps b os) ps (watchOver i b os w)
-over-both i b [] ps w = refl
-over-both i b (o ∷ os) ps w = over-both i (step b o .board) os ps (hears i b o w)
+over-both : (i : ℕ) (b : Board) (os ps : List Operation) (d : Bool) (w : Watch)
+    → watchOver i b (os ++ ps) d w ≡ watchOver i (steps b os) ps (defersOver b os d) (watchOver i b os d w)
+over-both i b [] ps d w = refl
+over-both i b (o ∷ os) ps d w = over-both i (step b o .board) os ps (defersAfter b o d) (hears i b d o w)
 
 steps-both : (b : Board) (os ps : List Operation) → steps b (os ++ ps) ≡ steps (steps b os) ps
 steps-both b [] ps = refl
@@ -58,8 +59,8 @@ bytes-both [] ps small others = others
 bytes-both (o ∷ os) ps small others = (small .0, bytes-both os ps (small .1) others)
 
 -- an accepted call is heard
-taken : (i : ℕ) (b : Board) (o : Operation) (w : Watch) → IsAccepted b o → hears i b o w ≡ heard i b o w
-taken i b o w took = ap (λ (reply : Reply Value). unlessRefused reply w (heard i b o w)) (took .1)
+taken : (i : ℕ) (b : Board) (d : Bool) (o : Operation) (w : Watch) → IsAccepted b o → hears i b d o w ≡ heard i b d o w
+taken i b d o w took = ap (λ (reply : Reply Value). unlessRefused reply w (heard i b d o w)) (took .1)
 
 both-accepted : (b : Board) (os ps : List Operation) → AllAccepted b (os ++ ps) → AllAccepted b os × AllAccepted (steps b os) ps
 both-accepted b [] ps took = (tt, took)
@@ -67,65 +68,71 @@ both-accepted b (o ∷ os) ps took =
     let rest = both-accepted (step b o .board) os ps (took .1) in
     ((took .0, rest .0), rest .1)
 
--- no call but of time changes the model or the defer flag
-pub record Kept (b d : Board) : Type 0 where
-  pub model-is : d .model ≡ b .model
-  pub defer-is : d .defer ≡ b .defer
-
-kept-by : (b : Board) (o : Operation) → isTimeCall o ≡ false → Kept b (step b o .board)
-kept-by b o other = let k = time-kept b o other in record { model-is = k .model-kept; defer-is = k .defer-kept }
-
 steps-model : (b : Board) (os : List Operation) → steps b os .model ≡ b .model
 steps-model b [] = refl
 steps-model b (o ∷ os) = steps-model (step b o .board) os ∙ settings-kept b o .0
 
-module _ (i : ℕ) (on : i < 3) (events : List ℕ) (place : ℕ) where
+-- but for a catch-up the board defers as it did
+same-defer : (b : Board) (o : Operation) (d : Bool) → catchesUp o ≡ false → defersAfter b o d ≡ d
+same-defer b o d other =
+    by-reply b o (λ (reply : Reply Value). unlessRefused reply d (cond (catchesUp o) true d) ≡ d) (λ number e. refl) (λ value e. ap (λ (t : Bool). cond t true d) other)
+
+module _ (i : ℕ) (on : i < 3) (events : List ℕ) (place : ℕ) (d : Bool) where
   own : eqb i i ≡ true
   own = eq-eqb i i refl
 
-  gate-heard : (b : Board) (level : Bool) (w : Watch) → IsAccepted b (gateCall i events place level) → hears i b (gateCall i events place level) w ≡ watchGate w level
+  gate-heard : (b : Board) (level : Bool) (w : Watch) → IsAccepted b (gateCall i events place level) → hears i b d (gateCall i events place level) w ≡ watchGate w level
   gate-heard b level w took =
-      taken i b (gateCall i events place level) w took ∙ ap (λ (t : Bool). cond t (watchGate w level) w) own
+      taken i b d (gateCall i events place level) w took ∙ ap (λ (t : Bool). cond t (watchGate w level) w) own
 
   byte-heard : (b : Board) (byte : ℕ) (w : Watch) → IsAccepted b (WritePort (0x40 + i) byte events place)
-      → hears i b (WritePort (0x40 + i) byte events place) w ≡ watchWrite (sheetChip (b .model)) (b .defer) w byte
+      → hears i b d (WritePort (0x40 + i) byte events place) w ≡ watchWrite (sheetChip (b .model)) d w byte
   byte-heard b byte w took =
-      taken i b (WritePort (0x40 + i) byte events place) w took
-      ∙ ap (λ (t : Bool). cond t (watchWrite (sheetChip (b .model)) (b .defer) w byte) (cond (eqb (0x40 + i) 0x43) (heardControl i (requestOf byte) w) w))
+      taken i b d (WritePort (0x40 + i) byte events place) w took
+      ∙ ap (λ (t : Bool). cond t (watchWrite (sheetChip (b .model)) d w byte) (cond (eqb (0x40 + i) 0x43) (heardControl i (requestOf byte) w) w))
       (eq-eqb (0x40 + i) (0x40 + i) refl)
 
   control-heard : (b : Board) (control : ℕ) (access : Access) (mode : ℕ) (bcd : Bool) (w : Watch) → requestOf control ≡ program i access mode bcd
-      → IsAccepted b (WritePort 0x43 control events place) → hears i b (WritePort 0x43 control events place) w ≡ watchProgram w access mode bcd
+      → IsAccepted b (WritePort 0x43 control events place) → hears i b d (WritePort 0x43 control events place) w ≡ watchProgram w access mode bcd
   control-heard b control access mode bcd w is took =
-      taken i b (WritePort 0x43 control events place) w took
-      ∙ ap (λ (t : Bool). cond t (watchWrite (sheetChip (b .model)) (b .defer) w control) (heardControl i (requestOf control) w)) (ne-eqb 0x43 (0x40 + i) (λ q. omega arith))
+      taken i b d (WritePort 0x43 control events place) w took
+      ∙ ap (λ (t : Bool). cond t (watchWrite (sheetChip (b .model)) d w control) (heardControl i (requestOf control) w)) (ne-eqb 0x43 (0x40 + i) (λ q. omega arith))
       ∙ ap (λ (r : Request). heardControl i r w) is
       ∙ ap (λ (t : Bool). cond t (watchProgram w access mode bcd) w) own
 
+  -- one call before others
+  call-first : (b : Board) (o : Operation) (os : List Operation) (w v : Watch) → catchesUp o ≡ false → hears i b d o w ≡ v
+      → watchOver i b (o ∷ os) d w ≡ watchOver i (step b o .board) os d v
+  call-first b o os w v other is =
+      ap (λ (e : Bool). watchOver i (step b o .board) os e (hears i b d o w)) (same-defer b o d other) ∙ ap (watchOver i (step b o .board) os d) is
+
   -- the bytes
+  bytes-defer : (b : Board) (bytes : List ℕ) → defersOver b (byteCalls i events place bytes) d ≡ d
+  bytes-defer b [] = refl
+  bytes-defer b (byte ∷ bytes) =
+      let call = WritePort (0x40 + i) byte events place in
+      ap (defersOver (step b call .board) (byteCalls i events place bytes)) (same-defer b call d refl) ∙ bytes-defer (step b call .board) bytes
+
   over-bytes : (b : Board) (bytes : List ℕ) (w : Watch) → AllAccepted b (byteCalls i events place bytes)
-      → (watchOver i b (byteCalls i events place bytes) w ≡ bytesHeard (sheetChip (b .model)) (b .defer) bytes w) × Kept b (steps b (byteCalls i events place bytes))
-  over-bytes b [] w took = (refl, record { model-is = refl; defer-is = refl })
+      → watchOver i b (byteCalls i events place bytes) d w ≡ bytesHeard (sheetChip (b .model)) d bytes w
+  over-bytes b [] w took = refl
   over-bytes b (byte ∷ bytes) w took =
       let call = WritePort (0x40 + i) byte events place in
-      let k = kept-by b call refl in
-      let rest = over-bytes (step b call .board) bytes (hears i b call w) (took .1) in (
-        rest .0
-            ∙ ap (λ (model : PitType). bytesHeard (sheetChip model) (step b call .board .defer) bytes (hears i b call w)) (k .model-is)
-            ∙ ap (λ (defer : Bool). bytesHeard (sheetChip (b .model)) defer bytes (hears i b call w)) (k .defer-is)
-            ∙ ap (bytesHeard (sheetChip (b .model)) (b .defer) bytes) (byte-heard b byte w (took .0)),
-        record { model-is = rest .1 .model-is ∙ k .model-is; defer-is = rest .1 .defer-is ∙ k .defer-is },
-      )
+      let then = watchWrite (sheetChip (b .model)) d w byte in
+      call-first b call (byteCalls i events place bytes) w then refl (byte-heard b byte w (took .0))
+      ∙ over-bytes (step b call .board) bytes then (took .1)
+      ∙ ap (λ (model : PitType). bytesHeard (sheetChip model) d bytes then) (settings-kept b call .0)
 
-  over-trigger : (b : Board) (t : Bool) (w : Watch) → AllAccepted b (triggerCalls i events place t) → watchOver i b (triggerCalls i events place t) w ≡ triggerHeard t w
+  over-trigger : (b : Board) (t : Bool) (w : Watch) → AllAccepted b (triggerCalls i events place t) → watchOver i b (triggerCalls i events place t) d w ≡ triggerHeard t w
   over-trigger b true w took =
-      gate-heard (step b (gateCall i events place false) .board) true _ (took .1 .0) ∙ ap (λ (v : Watch). watchGate v true) (gate-heard b false w (took .0))
+      call-first b (gateCall i events place false) (gateCall i events place true ∷ []) w (watchGate w false) refl (gate-heard b false w (took .0))
+      ∙ gate-heard (step b (gateCall i events place false) .board) true (watchGate w false) (took .1 .0)
   over-trigger b false w took = refl
 
   -- all of the opening
   over-opening : (b : Board) (control : ℕ) (access : Access) (mode : ℕ) (bcd : Bool) (low high : ℕ) (w : Watch) → requestOf control ≡ program i access mode bcd
       → AllAccepted b (opening i events place control access mode low high)
-      → watchOver i b (opening i events place control access mode low high) w ≡ openingHeard (sheetChip (b .model)) (b .defer) access mode bcd low high w
+      → watchOver i b (opening i events place control access mode low high) d w ≡ openingHeard (sheetChip (b .model)) d access mode bcd low high w
   over-opening b control access mode bcd low high w is took =
       let first = gateCall i events place true in
       let set = WritePort 0x43 control events place in
@@ -134,19 +141,16 @@ module _ (i : ℕ) (on : i < 3) (events : List ℕ) (place : ℕ) where
       let bytes = byteCalls i events place (bytesIn access low high) in
       let trigger = triggerCalls i events place (triggered mode) in
       let split = both-accepted b₂ bytes trigger (took .1 .1) in
-      let v = hears i b₁ set (hears i b first w) in
-      let heard-bytes = over-bytes b₂ (bytesIn access low high) v (split .0) in
-      let k₁ = kept-by b first refl in
-      let k₂ = kept-by b₁ set refl in
-      over-both i b₂ bytes trigger v
-      ∙ over-trigger (steps b₂ bytes) (triggered mode) (watchOver i b₂ bytes v) (split .1)
+      let raised-one = watchGate w true in
+      let v = watchProgram raised-one access mode bcd in
+      call-first b first (set ∷ bytes ++ trigger) w raised-one refl (gate-heard b true w (took .0))
+      ∙ call-first b₁ set (bytes ++ trigger) raised-one v refl (control-heard b₁ control access mode bcd raised-one is (took .1 .0))
+      ∙ over-both i b₂ bytes trigger d v
+      ∙ ap (λ (e : Bool). watchOver i (steps b₂ bytes) trigger e (watchOver i b₂ bytes d v)) (bytes-defer b₂ (bytesIn access low high))
+      ∙ over-trigger (steps b₂ bytes) (triggered mode) (watchOver i b₂ bytes d v) (split .1)
       ∙ ap (triggerHeard (triggered mode))
-      (heard-bytes .0
-      ∙ ap (λ (model : PitType). bytesHeard (sheetChip model) (b₂ .defer) (bytesIn access low high) v) (k₂ .model-is ∙ k₁ .model-is)
-      ∙ ap (λ (defer : Bool). bytesHeard (sheetChip (b .model)) defer (bytesIn access low high) v) (k₂ .defer-is ∙ k₁ .defer-is)
-      ∙ ap (bytesHeard (sheetChip (b .model)) (b .defer) (bytesIn access low high))
-      (control-heard b₁ control access mode bcd (hears i b first w) is (took .1 .0)
-      ∙ ap (λ (x : Watch). watchProgram x access mode bcd) (gate-heard b true w (took .0))))
+      (over-bytes b₂ (bytesIn access low high) v (split .0)
+      ∙ ap (λ (model : PitType). bytesHeard (sheetChip model) d (bytesIn access low high) v) (settings-kept b₁ set .0 ∙ settings-kept b first .0))
 
   small-bytes : (access : Access) (low high : ℕ) → low < 256 → high < 256 → AllBytes (byteCalls i events place (bytesIn access low high))
   small-bytes lowByte low high l h = (l, tt)
@@ -185,22 +189,26 @@ always-wanted : (stops : Bool) → Wanted stops true
 always-wanted true = refl
 always-wanted false = refl
 
-module _ (b : Board) (i : ℕ) (start : Watch) (from : Starts b i start) (on : i < 3) (m : ChannelMode) (bcd : Bool) (n : ℕ) (o : Opened b i start m bcd n)
-    (later : List Operation) (others : AllBytes later) (ps : List Pulse) (pins : pinsOver i (after b i start m bcd n o) later ≡ fixedAt ps) where
+module _ (b : Board) (i : ℕ) (defers : Bool) (start : Watch) (from : Starts b i defers start) (on : i < 3) (m : ChannelMode) (bcd : Bool) (n : ℕ)
+    (o : Opened b i defers start m bcd n)
+    (later : List Operation) (others : AllBytes later) (ps : List Pulse) (pins : pinsOver i (after b i defers start m bcd n o) later ≡ fixedAt ps) where
   abbrev mode : ℕ
   mode = modeNumber m
 
   abbrev now : Board
-  now = before b i start m bcd n o
+  now = before b i defers start m bcd n o
 
   abbrev begun : Board
-  begun = after b i start m bcd n o
+  begun = after b i defers start m bcd n o
 
   abbrev calls : List Operation
   calls = opening i (o .events) (o .place) (o .control) (o .access) mode (o .low) (o .high)
 
   abbrev known : Watch
-  known = watchOver i b (o .earlier) start
+  known = watchOver i b (o .earlier) defers start
+
+  abbrev deferring : Bool
+  deferring = defersOver b (o .earlier) defers
 
   abbrev one : Fixed Bool
   one = oneNow mode (afterOne known)
@@ -218,27 +226,27 @@ module _ (b : Board) (i : ℕ) (start : Watch) (from : Starts b i start) (on : i
   least = legal-number mode (numberWritten bcd count) n (o .number) .1
 
   abbrev late : Bool
-  late = not (triggered mode) && putsOff (now .defer) mode awaitsCount one
+  late = not (triggered mode) && putsOff deferring mode awaitsCount one
 
   abbrev At : Stage → Bool → Watch → Type 0
   At = IsAt chip m bcd one (o .access) count n (o .number) least
 
   -- the counter after the opening: a load is due
-  opens : At (due late) true (watchOver i now calls known)
+  opens : At (due late) true (watchOver i now calls deferring known)
   opens =
-      let t = opened (sheetChip (now .model)) (now .defer) m bcd one (o .known) (o .access) (o .low) (o .high) (fixedAt (outputAfterModeSet mode)) in (
+      let t = opened (sheetChip (now .model)) deferring m bcd one (o .known) (o .access) (o .low) (o .high) (fixedAt (outputAfterModeSet mode)) in (
         t .0,
         (
           leftOpen,
-          over-opening i on (o .events) (o .place) now (o .control) (o .access) mode bcd (o .low) (o .high) known (o .names) (o .took)
-              ∙ ap (λ (w : Watch). triggerHeard (triggered mode) (bytesHeard (sheetChip (now .model)) (now .defer) (bytesIn (o .access) (o .low) (o .high)) w))
+          over-opening i on (o .events) (o .place) deferring now (o .control) (o .access) mode bcd (o .low) (o .high) known (o .names) (o .took)
+              ∙ ap (λ (w : Watch). triggerHeard (triggered mode) (bytesHeard (sheetChip (now .model)) deferring (bytesIn (o .access) (o .low) (o .high)) w))
               (set-high known (o .access) mode bcd)
               ∙ t .1,
         ),
       )
 
   abbrev opened-watch : Watch
-  opened-watch = watchOver i now calls known
+  opened-watch = watchOver i now calls deferring known
 
   all-small : AllBytes (o .earlier ++ (calls ++ later))
   all-small =
@@ -248,17 +256,17 @@ module _ (b : Board) (i : ℕ) (start : Watch) (from : Starts b i start) (on : i
         (
           o .control-byte,
           bytes-both (byteCalls i (o .events) (o .place) (bytesIn (o .access) (o .low) (o .high))) (triggerCalls i (o .events) (o .place) (triggered mode))
-              (small-bytes i on (o .events) (o .place) (o .access) (o .low) (o .high) (o .low-byte) (o .high-byte))
-              (small-trigger i on (o .events) (o .place) (triggered mode)),
+              (small-bytes i on (o .events) (o .place) deferring (o .access) (o .low) (o .high) (o .low-byte) (o .high-byte))
+              (small-trigger i on (o .events) (o .place) deferring (triggered mode)),
         ),
       )
       others)
 
-  watched : watchOver i b (o .earlier ++ (calls ++ later)) start ≡ pulsed chip opened-watch ps
+  watched : watchOver i b (o .earlier ++ (calls ++ later)) defers start ≡ pulsed chip opened-watch ps
   watched =
-      over-both i b (o .earlier) (calls ++ later) start
-      ∙ over-both i now calls later known
-      ∙ over-pins i begun later ps pins opened-watch
+      over-both i b (o .earlier) (calls ++ later) defers start
+      ∙ over-both i now calls later deferring known
+      ∙ over-pins i begun later ps pins (defersOver now calls deferring) opened-watch
       ∙ ap (λ (c : Chip). pulsed c opened-watch ps) (ap sheetChip (steps-model now calls) ∙ same-chip)
 
   ended : steps b (o .earlier ++ (calls ++ later)) ≡ steps begun later
@@ -268,8 +276,8 @@ module _ (b : Board) (i : ℕ) (start : Watch) (from : Starts b i start) (on : i
   shown : (x : Watch) → pulsed chip opened-watch ps ≡ x → ShowsIn x (channelAt (steps begun later) i)
   shown x is =
       subst (λ (w : Watch). ShowsIn w (channelAt (steps begun later) i)) (watched ∙ is)
-      (subst (λ (d : Board). ShowsIn (watchOver i b (o .earlier ++ (calls ++ later)) start) (channelAt d i)) ended
-      (follows b i start from on (o .earlier ++ (calls ++ later)) all-small))
+      (subst (λ (d : Board). ShowsIn (watchOver i b (o .earlier ++ (calls ++ later)) defers start) (channelAt d i)) ended
+      (follows b i defers start from on (o .earlier ++ (calls ++ later)) all-small))
 
   pos : 0 < n
   pos = above-zero m n least
@@ -286,7 +294,7 @@ module _ (b : Board) (i : ℕ) (start : Watch) (from : Starts b i start) (on : i
   stays-at qs st x steady is =
       stages chip m bcd one (o .access) count n (o .number) least qs st true (always-wanted (fallEffect mode .stops)) steady x is
 
-  to-pin : Undisturbed (fallEffect mode .stops) true ps → (j : ℕ) → clocksIn ps ≡ suc (lateTicks b i start m bcd n o + j)
+  to-pin : Undisturbed (fallEffect mode .stops) true ps → (j : ℕ) → clocksIn ps ≡ suc (lateTicks b i defers start m bcd n o + j)
       → AtThePin (steps begun later) i bcd (outputAfter mode n j) (valueAfter chip bcd mode n j)
   to-pin steady j made =
       running-shows j (lastLevel true ps)
@@ -295,10 +303,10 @@ module _ (b : Board) (i : ℕ) (start : Watch) (from : Starts b i start) (on : i
       (stays-at ps (due late) opened-watch steady opens))
 
   -- after the ticks up to the load and j more
-  run-on : (j : ℕ) → pulsed chip opened-watch (clocks (suc (lateTicks b i start m bcd n o + j)))
+  run-on : (j : ℕ) → pulsed chip opened-watch (clocks (suc (lateTicks b i defers start m bcd n o + j)))
       ≡ watching (running chip m bcd one (o .access) count n (o .number) least true j) false one
   run-on j =
-      let k = suc (lateTicks b i start m bcd n o + j) in
+      let k = suc (lateTicks b i defers start m bcd n o + j) in
       subst (λ (gate : Bool). At (run j) gate (pulsed chip opened-watch (clocks k))) (clocks-level true k)
       (subst (λ (st : Stage). At st (lastLevel true (clocks k)) (pulsed chip opened-watch (clocks k)))
       (ap (λ (c : ℕ). times c next (due late)) (clocks-in k) ∙ late-after late j)
@@ -336,12 +344,12 @@ module _ (b : Board) (i : ℕ) (start : Watch) (from : Starts b i start) (on : i
   Paused qs mode' =
       AtThePin (steps begun later) i bcd (pausedOutput mode' n (highClocks true 0 qs) (lastCounted true false qs)) (downValue bcd n (highClocks true 0 qs))
 
-  loaded : pulsed chip opened-watch (clocks (suc (lateTicks b i start m bcd n o))) ≡ watching (running chip m bcd one (o .access) count n (o .number) least true 0) false one
+  loaded : pulsed chip opened-watch (clocks (suc (lateTicks b i defers start m bcd n o))) ≡ watching (running chip m bcd one (o .access) count n (o .number) least true 0) false one
   loaded =
-      let same : lateTicks b i start m bcd n o + 0 ≡ lateTicks b i start m bcd n o = omega arith in
+      let same : lateTicks b i defers start m bcd n o + 0 ≡ lateTicks b i defers start m bcd n o = omega arith in
       subst (λ (k : ℕ). pulsed chip opened-watch (clocks (suc k)) ≡ watching (running chip m bcd one (o .access) count n (o .number) least true 0) false one) same (run-on 0)
 
-  pauses : (mode ≡ 0) ⊎ (mode ≡ 4) → (qs : List Pulse) → ps ≡ clocks (suc (lateTicks b i start m bcd n o)) ++ qs → Paused qs mode
+  pauses : (mode ≡ 0) ⊎ (mode ≡ 4) → (qs : List Pulse) → ps ≡ clocks (suc (lateTicks b i defers start m bcd n o)) ++ qs → Paused qs mode
   pauses modes qs split =
       record { output-is = s .shows-output; value-is = s .shows-value }
     where
@@ -365,12 +373,12 @@ module _ (b : Board) (i : ℕ) (start : Watch) (from : Starts b i start) (on : i
       s =
           shown _
           (ap (pulsed chip opened-watch) split
-          ∙ pulsed-both chip (clocks (suc (lateTicks b i start m bcd n o))) qs opened-watch
+          ∙ pulsed-both chip (clocks (suc (lateTicks b i defers start m bcd n o))) qs opened-watch
           ∙ ap (λ (x : Watch). pulsed chip x qs) (loaded ∙ begins)
           ∙ goes .1)
 
   -- G2, G3
-  holds : fallEffect mode .raises ≡ true → (j : ℕ) (qs : List Pulse) → ps ≡ clocks (suc (lateTicks b i start m bcd n o + j)) ++ gateAt false ∷ qs → Undisturbed false false qs
+  holds : fallEffect mode .raises ≡ true → (j : ℕ) (qs : List Pulse) → ps ≡ clocks (suc (lateTicks b i defers start m bcd n o + j)) ++ gateAt false ∷ qs → Undisturbed false false qs
       → AtThePin (steps begun later) i bcd true (valueAfter chip bcd mode n j)
   holds raises j qs split quiet =
       let place = placeOf (doesRetrigger m) n j in
@@ -380,19 +388,19 @@ module _ (b : Board) (i : ℕ) (start : Watch) (from : Starts b i start) (on : i
       let s =
       shown _
       (ap (pulsed chip opened-watch) split
-      ∙ pulsed-both chip (clocks (suc (lateTicks b i start m bcd n o + j))) (gateAt false ∷ qs) opened-watch
+      ∙ pulsed-both chip (clocks (suc (lateTicks b i defers start m bcd n o + j))) (gateAt false ∷ qs) opened-watch
       ∙ ap (λ (x : Watch). pulsed chip x (gateAt false ∷ qs)) (run-on j)
       ∙ t .1) in
       record { output-is = s .shows-output; value-is = s .shows-value ∙ ap (held bcd) (value-place chip bcd n j pos m) }
 
 pub port-to-pin : PortToPin
-port-to-pin b i start from on m bcd n o later others ps pins = to-pin b i start from on m bcd n o later others ps pins
+port-to-pin b i defers start from on m bcd n o later others ps pins = to-pin b i defers start from on m bcd n o later others ps pins
 
 pub gate-pauses : GatePauses
-gate-pauses b i start from on m bcd n o later others ps pins = pauses b i start from on m bcd n o later others ps pins
+gate-pauses b i defers start from on m bcd n o later others ps pins = pauses b i defers start from on m bcd n o later others ps pins
 
 pub trigger-restarts : TriggerRestarts
-trigger-restarts b i start from on m bcd n o later others ps pins = restarts b i start from on m bcd n o later others ps pins
+trigger-restarts b i defers start from on m bcd n o later others ps pins = restarts b i defers start from on m bcd n o later others ps pins
 
 pub fall-holds : FallHolds
-fall-holds b i start from on m bcd n o later others ps pins = holds b i start from on m bcd n o later others ps pins
+fall-holds b i defers start from on m bcd n o later others ps pins = holds b i defers start from on m bcd n o later others ps pins

@@ -19,7 +19,7 @@ use Rattle.sheet.specs.Ticking.{Chip}
 use Rattle.sheet.specs.Counter.{Fixed, leftOpen, fixedAt}
 use Rattle.agreement.specs.Words.{sheetChip}
 use Rattle.agreement.specs.Watching.{Watch, watchProgram, watchTick, watchGate, watchWrite, watchCounts, watchCycle}
-use Rattle.waveform.specs.Heard.{heardControl, heard, unlessRefused, hears, watchOver}
+use Rattle.waveform.specs.Heard.{heardControl, heard, unlessRefused, hears, defersAfter, watchOver}
 use Rattle.waveform.specs.Pins.{Pulse, gateAt, clock, clocks, noPulse, controlPins, pinsOf, joined, pinsOver, pulsed}
 use Rattle.waveform.proofs.Stages.{times-first}
 
@@ -44,7 +44,7 @@ clocked : (chip : Chip) (k : ℕ) (w : Watch) → times k (watchTick chip) w ≡
 clocked chip zero w = refl
 clocked chip (suc k) w = times-first k (watchTick chip) w ∙ clocked chip k (watchTick chip w)
 
-module _ (i : ℕ) (b : Board) (w : Watch) (ps : List Pulse) where
+module _ (i : ℕ) (b : Board) (defers : Bool) (w : Watch) (ps : List Pulse) where
   abbrev chip : Chip
   chip = sheetChip (b .model)
 
@@ -71,9 +71,9 @@ module _ (i : ℕ) (b : Board) (w : Watch) (ps : List Pulse) where
   gate-pins true level is = ap (λ (x : Fixed (List Pulse)). pulsed chip w (listOf x)) is
   gate-pins false level is = quiet is
 
-  heard-pins : (o : Operation) → pinsOf i b o ≡ fixedAt ps → heard i b o w ≡ pulsed chip w ps
+  heard-pins : (o : Operation) → pinsOf i b o ≡ fixedAt ps → heard i b defers o w ≡ pulsed chip w ps
   heard-pins (WritePort port byte events place) is =
-      byte-pins (eqb port (0x40 + i)) (eqb port 0x43) (watchWrite chip (b .defer) w byte) (requestOf byte) is
+      byte-pins (eqb port (0x40 + i)) (eqb port 0x43) (watchWrite chip defers w byte) (requestOf byte) is
   heard-pins (ReadPort port) is = quiet is
   heard-pins (SetChannelGate n level events place) is = gate-pins (eqb n i) level is
   heard-pins (Counts n number) is = one-of (eqb n i) (watchCounts w number) is
@@ -89,9 +89,9 @@ module _ (i : ℕ) (b : Board) (w : Watch) (ps : List Pulse) where
   heard-pins (WorkOff stated events place) is =
       clocked chip (madeBy (step b (WorkOff stated events place) .reply)) w ∙ ap (λ (x : Fixed (List Pulse)). pulsed chip w (listOf x)) is
 
-  hears-pins : (o : Operation) → unlessRefused (step b o .reply) noPulse (pinsOf i b o) ≡ fixedAt ps → hears i b o w ≡ pulsed chip w ps
+  hears-pins : (o : Operation) → unlessRefused (step b o .reply) noPulse (pinsOf i b o) ≡ fixedAt ps → hears i b defers o w ≡ pulsed chip w ps
   hears-pins o =
-      by-reply b o (λ (reply : Reply Value). unlessRefused reply noPulse (pinsOf i b o) ≡ fixedAt ps → unlessRefused reply w (heard i b o w) ≡ pulsed chip w ps)
+      by-reply b o (λ (reply : Reply Value). unlessRefused reply noPulse (pinsOf i b o) ≡ fixedAt ps → unlessRefused reply w (heard i b defers o w) ≡ pulsed chip w ps)
       (λ number e is. quiet is)
       (λ value e is. heard-pins o is)
 
@@ -108,13 +108,13 @@ parted leftOpen b ps is = absurd (open-not ps is)
 parted (fixedAt qs) leftOpen ps is = absurd (open-not ps is)
 parted (fixedAt qs) (fixedAt rs) ps is = record { first = qs; then = rs; first-is = refl; then-is = refl; both-are = ap listOf is }
 
-pub over-pins : (i : ℕ) (b : Board) (os : List Operation) (ps : List Pulse) → pinsOver i b os ≡ fixedAt ps → (w : Watch)
-    → watchOver i b os w ≡ pulsed (sheetChip (b .model)) w ps
-over-pins i b [] ps is w = ap (λ (x : Fixed (List Pulse)). pulsed (sheetChip (b .model)) w (listOf x)) is
-over-pins i b (o ∷ os) ps is w =
+pub over-pins : (i : ℕ) (b : Board) (os : List Operation) (ps : List Pulse) → pinsOver i b os ≡ fixedAt ps → (defers : Bool) (w : Watch)
+    → watchOver i b os defers w ≡ pulsed (sheetChip (b .model)) w ps
+over-pins i b [] ps is defers w = ap (λ (x : Fixed (List Pulse)). pulsed (sheetChip (b .model)) w (listOf x)) is
+over-pins i b (o ∷ os) ps is defers w =
     let p = parted (unlessRefused (step b o .reply) noPulse (pinsOf i b o)) (pinsOver i (step b o .board) os) ps is in
-    over-pins i (step b o .board) os (p .then) (p .then-is) (hears i b o w)
-    ∙ ap (λ (model : PitType). pulsed (sheetChip model) (hears i b o w) (p .then)) (settings-kept b o .0)
-    ∙ ap (λ (x : Watch). pulsed (sheetChip (b .model)) x (p .then)) (hears-pins i b w (p .first) o (p .first-is))
+    over-pins i (step b o .board) os (p .then) (p .then-is) (defersAfter b o defers) (hears i b defers o w)
+    ∙ ap (λ (model : PitType). pulsed (sheetChip model) (hears i b defers o w) (p .then)) (settings-kept b o .0)
+    ∙ ap (λ (x : Watch). pulsed (sheetChip (b .model)) x (p .then)) (hears-pins i b defers w (p .first) o (p .first-is))
     ∙ sym (pulsed-both (sheetChip (b .model)) (p .first) (p .then) w)
     ∙ ap (pulsed (sheetChip (b .model)) w) (p .both-are)

@@ -1,10 +1,12 @@
 -- The sheets' counter from a load that is due on, the gate as the mode wants it: the ticks before the load, and those after it. Assumes nothing.
 use Prim.Native.Nat.{ℕ, zero, suc, _+_, _≤_}
-use mathlib.Core.Bool.{Bool, true, false, true≢false, false≢true, not, cond, _||_}
+use mathlib.Core.Bool.{Bool, true, false, true≢false, not, cond, _&&_, _||_}
 use mathlib.Core.List.{List, [], _∷_}
 use mathlib.Core.Path.{_≡_, refl, sym, ap, _∙_, subst}
 use native.Mathlib.Nat.{zero-add, suc-add}
 use lib.Dec.{eqb}
+use borrow.Author.Tests.{eqb-true}
+use Rattle.numbers.specs.Digits.{weight}
 use Rattle.numbers.specs.Times.{times}
 use Rattle.channel.specs.declared.ChannelMode.{ChannelMode}
 use Rattle.channel.specs.Modes.{modeNumber}
@@ -14,8 +16,8 @@ use Rattle.sheet.specs.ControlByte.{Access}
 use Rattle.sheet.specs.Gate.{fallEffect}
 use Rattle.sheet.specs.Ticking.{Chip, outputAfter, smallest, valueAfter}
 use Rattle.sheet.specs.Counter.{Fixed, leftOpen, fixedAt, Phase, awaitsTrigger, loading, counting, lost, Counter}
-use Rattle.sheet.specs.CounterTick.{numberWritten, legal, at, loadHalf, rested}
-use Rattle.agreement.specs.Watching.{Watch, watching, watchTick, watchGate}
+use Rattle.sheet.specs.CounterTick.{numberWritten, legal, at, loadHalf, load, reloads, rested, tick}
+use Rattle.agreement.specs.Watching.{Watch, watching, neverLoads, watchTick, watchGate}
 use Rattle.waveform.specs.Pins.{Pulse, gateAt, clock, pulsed, clocksIn, lastLevel, MayMove, Undisturbed}
 use Rattle.waveform.proofs.Running.{placeOf, next-place, first-place}
 
@@ -59,6 +61,20 @@ wanted-on true false true may is = absurd may
 wanted-on true false false may is = is
 wanted-on false gate level may is = refl
 
+one-named : (bcd : Bool) → numberWritten bcd 1 ≡ fixedAt 1
+unfolding weight
+one-named true = refl
+one-named false = refl
+
+abbrev isOpen : Fixed ℕ → Bool
+isOpen leftOpen = true
+isOpen (fixedAt x) = false
+
+and-none : (a b : Bool) → (a && (b && false)) ≡ false
+and-none true true = refl
+and-none true false = refl
+and-none false b = refl
+
 module _ (chip : Chip) (m : ChannelMode) (bcd : Bool) (one : Fixed Bool) (access : Access) (w n : ℕ)
     (number : legal (modeNumber m) (numberWritten bcd w) ≡ fixedAt n) (least : smallest (modeNumber m) ≤ n) where
   abbrev mode : ℕ
@@ -81,16 +97,47 @@ module _ (chip : Chip) (m : ChannelMode) (bcd : Bool) (one : Fixed Bool) (access
   IsAt (due late) gate x = (o : Fixed Bool) × ((v : Fixed ℕ) × (x ≡ watching (counter gate loading o v) late one))
   IsAt (run j) gate x = x ≡ watching (running gate j) false one
 
+  -- S8: it is not a count of 1 in mode 2 or 3
+  may-load : (neverLoads (counter true loading leftOpen leftOpen)) ≡ false
+  may-load = loads-in m refl
+    where
+      other : (k : ℕ) → legal k (fixedAt 1) ≡ leftOpen → modeNumber m ≡ k → (b : Bool) → eqb w 1 ≡ b → eqb w 1 ≡ false
+      other k none mode-is true is =
+          absurd
+          (true≢false
+          (ap isOpen
+          (sym none
+          ∙ ap (legal k) (sym (one-named bcd))
+          ∙ ap (λ (x : ℕ). legal k (numberWritten bcd x)) (sym (eqb-true w 1 is))
+          ∙ ap (λ (x : ℕ). legal x (numberWritten bcd w)) (sym mode-is)
+          ∙ number)))
+      other k none mode-is false is = is
+
+      by-mode : (x : ChannelMode) → ((k : ℕ) → legal k (fixedAt 1) ≡ leftOpen → modeNumber x ≡ k → eqb w 1 ≡ false)
+          → ((eqb (modeNumber x) 2 || eqb (modeNumber x) 3) && eqb w 1) ≡ false
+      by-mode =
+          every-mode (λ (x : ChannelMode). ((k : ℕ) → legal k (fixedAt 1) ≡ leftOpen → modeNumber x ≡ k → eqb w 1 ≡ false)
+          → ((eqb (modeNumber x) 2 || eqb (modeNumber x) 3) && eqb w 1) ≡ false)
+          (λ f. refl) (λ f. refl) (λ f. f 2 refl refl) (λ f. f 3 refl refl) (λ f. refl) (λ f. refl)
+
+      loads-in : (x : ChannelMode) → m ≡ x → ((eqb (modeNumber m) 2 || eqb (modeNumber m) 3) && eqb w 1) ≡ false
+      loads-in x is = rw is (by-mode x (λ k none e. other k none (ap modeNumber is ∙ e) (eqb w 1) refl))
+
   loads-now : (gate : Bool) (o : Fixed Bool) (v : Fixed ℕ) → watchTick chip (watching (counter gate loading o v) false one) ≡ watching (running gate 0) false one
   loads-now gate o v =
-      ap (λ (x : Fixed ℕ). watching (loadHalf chip false x (counter gate loading o v)) false one) number
+      ap (λ (b : Bool). watching (cond b (counter gate loading (fixedAt true) v) (load chip false (counter gate loading o v))) false one) may-load
+      ∙ ap (λ (x : Fixed ℕ). watching (loadHalf chip false x (counter gate loading o v)) false one) number
       ∙ ap (λ (j : ℕ). watching (at chip (counter gate loading o v) n j) false one) (sym (first-place n m))
 
   tick-stage : (st : Stage) (gate : Bool) → Wanted stops gate → (x : Watch) → IsAt st gate x → IsAt (next st) gate (watchTick chip x)
   tick-stage (due true) gate runs x is = (rested mode (is .0), (is .1 .0, ap (watchTick chip) (is .1 .1)))
   tick-stage (due false) gate runs x is = ap (watchTick chip) (is .1 .1) ∙ loads-now gate (is .0) (is .1 .0)
   tick-stage (run j) gate runs x is =
+      let countsNow = not stops || gate in
+      let reloadsNow = reloads mode n (suc (placeOf (doesRetrigger m) n j)) in
       ap (watchTick chip) is
+      ∙ ap (λ (b : Bool). watching (cond (countsNow && (reloadsNow && b)) (counter gate loading (fixedAt true) leftOpen) (tick chip (running gate j))) false one) may-load
+      ∙ ap (λ (b : Bool). watching (cond b (counter gate loading (fixedAt true) leftOpen) (tick chip (running gate j))) false one) (and-none countsNow reloadsNow)
       ∙ ap (λ (k : Counter). watching k false one)
       (next-place chip (counter gate loading leftOpen leftOpen) n number runs m refl least j)
 

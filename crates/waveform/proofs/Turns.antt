@@ -288,7 +288,7 @@ module _ (b : Board) (three : length (b .channels) ≡ 3) (i : ℕ) (on : i < 3)
       (ticks-track (madeBy (workOff b stated events place .reply)))
 
   -- every accepted call
-  pub turn : (o : Operation) → IsByte o → (value : Value) → step b o .reply ≡ accepted value → Then (heard i b o w) (step b o .board)
+  pub turn : (o : Operation) → IsByte o → (value : Value) → step b o .reply ≡ accepted value → Then (heard i b (b .defer) o w) (step b o .board)
   unfolding writePort readPort
   turn (WritePort port byte events place) small value took = port-turn port byte events place value small took
   turn (ReadPort port) small value took = read-turn (portOf port)

@@ -51,7 +51,7 @@ abbrev six : List ℕ
 six = 0 ∷ 0 ∷ 0 ∷ 0 ∷ 0 ∷ 0 ∷ []
 
 -- mode 0 is set on channel 0 of a fresh board, and a catch-up sets the defer flag; then mode 4 and the count 2
-pub deferring : Opened new 0 start SoftwareTriggeredStrobe false 2
+pub deferring : Opened new 0 false start SoftwareTriggeredStrobe false 2
 unfolding fresh freshAt writePort portOf commandOf settle placeEvent setMode setChannelGate setGate writeByte putRegister completeLoad finalizeLoad changeChannelState changeOutputState putElement catchUp run ticksFromTime workOff boardTick tick due idle deferred agedBy loaded loadAt loadValue withArmed afterCounts countingOn marked count
 deferring =
     record {
@@ -80,14 +80,14 @@ paused =
 abbrev since : List Pulse
 since = gateAt false ∷ clock ∷ gateAt true ∷ clock ∷ clock ∷ []
 
-pub meets-paused : AtThePin (steps (after new 0 start SoftwareTriggeredStrobe false 2 deferring) paused) 0 false false 0
+pub meets-paused : AtThePin (steps (after new 0 false start SoftwareTriggeredStrobe false 2 deferring) paused) 0 false false 0
 unfolding fresh freshAt writePort portOf commandOf settle placeEvent setMode setChannelGate setGate writeByte putRegister completeLoad finalizeLoad changeChannelState changeOutputState putElement catchUp run ticksFromTime workOff boardTick tick due idle deferred agedBy loaded loadAt loadValue withArmed afterCounts countingOn marked count deferring
 meets-paused =
-    gate-pauses new 0 start (inr (Model8253, (12, (refl, refl)))) (omega arith) SoftwareTriggeredStrobe false 2 deferring paused
+    gate-pauses new 0 false start (inr (Model8253, (12, (refl, (refl, refl))))) (omega arith) SoftwareTriggeredStrobe false 2 deferring paused
     (tt, (tt, (tt, (tt, (tt, (tt, (tt, (tt, tt)))))))) (clock ∷ clock ∷ since) refl (inr refl) since refl
 
 -- mode 5, the count 2 and a trigger on a fresh board, where no mode 1 was set; then three ticks in one call
-pub triggered : Opened new 0 start HardwareTriggeredStrobe false 2
+pub triggered : Opened new 0 false start HardwareTriggeredStrobe false 2
 unfolding fresh freshAt writePort portOf commandOf settle placeEvent setMode setChannelGate setGate writeByte putRegister completeLoad finalizeLoad changeChannelState changeOutputState putElement catchUp run ticksFromTime workOff boardTick tick due idle deferred agedBy loaded loadAt loadValue withArmed afterCounts countingOn marked count
 triggered =
     record {
@@ -112,8 +112,8 @@ abbrev ticked : List Operation
 ticked = Run 36 ∷ WorkOff 3 six 0 ∷ []
 
 -- so the output is low: the strobe, two ticks after the load
-pub meets-triggered : AtThePin (steps (after new 0 start HardwareTriggeredStrobe false 2 triggered) ticked) 0 false false 0
+pub meets-triggered : AtThePin (steps (after new 0 false start HardwareTriggeredStrobe false 2 triggered) ticked) 0 false false 0
 unfolding fresh freshAt writePort portOf commandOf settle placeEvent setMode setChannelGate setGate writeByte putRegister completeLoad finalizeLoad changeChannelState changeOutputState putElement catchUp run ticksFromTime workOff boardTick tick due idle deferred agedBy loaded loadAt loadValue withArmed afterCounts countingOn marked count triggered
 meets-triggered =
-    port-to-pin new 0 start (inr (Model8253, (12, (refl, refl)))) (omega arith) HardwareTriggeredStrobe false 2 triggered ticked (tt, (tt, tt))
+    port-to-pin new 0 false start (inr (Model8253, (12, (refl, (refl, refl))))) (omega arith) HardwareTriggeredStrobe false 2 triggered ticked (tt, (tt, tt))
     (clock ∷ clock ∷ clock ∷ []) refl tt 2 refl

@@ -1,13 +1,13 @@
 -- Levels and ticks leave what is written to the sheets' counter: its control word, its count, and the level that was set last. Assumes nothing.
 use Prim.Native.Nat.{ℕ, suc}
-use mathlib.Core.Bool.{Bool, true, false, cond}
+use mathlib.Core.Bool.{Bool, true, false, cond, _&&_}
 use mathlib.Core.List.{List, [], _∷_}
 use mathlib.Core.Path.{_≡_, refl, ap, _∙_}
 use Rattle.sheet.specs.ControlByte.{Access}
 use Rattle.sheet.specs.Ticking.{Chip}
 use Rattle.sheet.specs.Counter.{Fixed, leftOpen, fixedAt, Phase, awaitsCount, awaitsTrigger, loading, counting, lost, Counter, standing}
 use Rattle.sheet.specs.CounterTick.{toLoad, at, loadHalf, load, beginsLow, reloads, countTo, rest, counts}
-use Rattle.agreement.specs.Watching.{Watch, watching, tickLate, watchTick, watchGate}
+use Rattle.agreement.specs.Watching.{Watch, watching, neverLoads, loadTick, tickLate, watchTick, watchGate}
 use Rattle.waveform.specs.Pins.{Pulse, gateAt, clock, pulsed, lastLevel}
 
 -- the same counter at another place
@@ -43,10 +43,14 @@ module _ (chip : Chip) (access : Access) (mode : ℕ) (bcd : Bool) (first count 
   moved-tick late gate awaitsTrigger o v = moved-rest (counter gate awaitsTrigger o v)
   moved-tick late gate loading o v =
       let k = counter gate loading o v in
-      moved-either late k (rest k) (load chip false k) (moved-rest k) (moved-load chip false k (toLoad k))
+      moved-either late k (rest k) (loadTick chip k) (moved-rest k)
+      (moved-either (neverLoads k) k (standing k loading (fixedAt true) (k .value)) (load chip false k)
+      (record { phase = _; output = _; value = _; is = refl }) (moved-load chip false k (toLoad k)))
   moved-tick late gate (counting n j) o v =
       let k = counter gate (counting n j) o v in
-      moved-either (counts k) k (countTo chip n (suc j) k) (rest k) (moved-count chip n (suc j) k) (moved-rest k)
+      moved-either (counts k && (reloads mode n (suc j) && neverLoads k)) k (standing k loading (fixedAt true) leftOpen) (cond (counts k) (countTo chip n (suc j) k) (rest k))
+      (record { phase = _; output = _; value = _; is = refl })
+      (moved-either (counts k) k (countTo chip n (suc j) k) (rest k) (moved-count chip n (suc j) k) (moved-rest k))
   moved-tick late gate lost o v = record { phase = lost; output = leftOpen; value = leftOpen; is = refl }
 
   -- a watch of the same counter, with this level at its gate

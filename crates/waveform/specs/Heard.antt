@@ -1,7 +1,7 @@
 -- What a channel of the board hears of a call, in the sheets' words: a control word, a byte, a level at its gate, ticks. What the sheets' counter makes of it, with
 -- our departures put in, is agreement's (specs/Watching.antt there).
 use Prim.Native.Nat.{ℕ, _+_, _<_}
-use mathlib.Core.Bool.{Bool, cond}
+use mathlib.Core.Bool.{Bool, true, false, cond}
 use mathlib.Core.List.{List, [], _∷_}
 use lib.Dec.{eqb}
 use Rattle.numbers.specs.Times.{times}
@@ -27,35 +27,59 @@ abbrev pub heardByte : ℕ → Chip → Bool → ℕ → ℕ → Watch → Watch
 heardByte i chip defer port byte w =
     cond (eqb port (0x40 + i)) (watchWrite chip defer w byte) (cond (eqb port 0x43) (heardControl i (requestOf byte) w) w)
 
--- what channel i of the board hears of an accepted call
-abbrev pub heard : ℕ → Board → Operation → Watch → Watch
-heard i b (WritePort port byte events place) w = heardByte i (sheetChip (b .model)) (b .defer) port byte w
-heard i b (ReadPort port) w = w
-heard i b (SetChannelGate channel level events place) w = cond (eqb channel i) (watchGate w level) w
-heard i b (Counts channel number) w = cond (eqb channel i) (watchCounts w number) w
-heard i b (LoadCycle channel) w = cond (eqb channel i) (watchCycle w) w
-heard i b (CatchUp given) w = w
-heard i b (Run given) w = w
-heard i b Reset w = watchReset w
-heard i b (GetOutputState channel) w = w
-heard i b (GetChannelCount channel) w = w
-heard i b (DoesChannelRetrigger channel) w = w
-heard i b (IsDirty channel) w = w
-heard i b GetTimerAccum w = w
-heard i b (WorkOff stated events place) w = times (madeBy (step b (WorkOff stated events place) .reply)) (watchTick (sheetChip (b .model))) w
+-- 01: "Catch-up then sets .. the defer flag to true"; nothing else sets it, and nothing clears it. So whether the board defers is told by the calls
+abbrev pub catchesUp : Operation → Bool
+catchesUp (WritePort port byte events place) = false
+catchesUp (ReadPort port) = false
+catchesUp (SetChannelGate channel level events place) = false
+catchesUp (Counts channel number) = false
+catchesUp (LoadCycle channel) = false
+catchesUp (CatchUp given) = true
+catchesUp (Run given) = false
+catchesUp Reset = false
+catchesUp (GetOutputState channel) = false
+catchesUp (GetChannelCount channel) = false
+catchesUp (DoesChannelRetrigger channel) = false
+catchesUp (IsDirty channel) = false
+catchesUp GetTimerAccum = false
+catchesUp (WorkOff stated events place) = false
+
+-- what channel i of a board hears of an accepted call, where the board defers or does not
+abbrev pub heard : ℕ → Board → Bool → Operation → Watch → Watch
+heard i b defers (WritePort port byte events place) w = heardByte i (sheetChip (b .model)) defers port byte w
+heard i b defers (ReadPort port) w = w
+heard i b defers (SetChannelGate channel level events place) w = cond (eqb channel i) (watchGate w level) w
+heard i b defers (Counts channel number) w = cond (eqb channel i) (watchCounts w number) w
+heard i b defers (LoadCycle channel) w = cond (eqb channel i) (watchCycle w) w
+heard i b defers (CatchUp given) w = w
+heard i b defers (Run given) w = w
+heard i b defers Reset w = watchReset w
+heard i b defers (GetOutputState channel) w = w
+heard i b defers (GetChannelCount channel) w = w
+heard i b defers (DoesChannelRetrigger channel) w = w
+heard i b defers (IsDirty channel) w = w
+heard i b defers GetTimerAccum w = w
+heard i b defers (WorkOff stated events place) w = times (madeBy (step b (WorkOff stated events place) .reply)) (watchTick (sheetChip (b .model))) w
 
 -- a refused call is not heard
 abbrev pub unlessRefused : {A : Type 0} → Reply Value → A → A → A
 unlessRefused (refused number) old new = old
 unlessRefused (accepted value) old new = new
 
-abbrev pub hears : ℕ → Board → Operation → Watch → Watch
-hears i b o w = unlessRefused (step b o .reply) w (heard i b o w)
+abbrev pub hears : ℕ → Board → Bool → Operation → Watch → Watch
+hears i b defers o w = unlessRefused (step b o .reply) w (heard i b defers o w)
+
+abbrev pub defersAfter : Board → Operation → Bool → Bool
+defersAfter b o defers = unlessRefused (step b o .reply) defers (cond (catchesUp o) true defers)
 
 -- .. over a list of calls, each when its turn comes
-abbrev pub watchOver : ℕ → Board → List Operation → Watch → Watch
-watchOver i b [] w = w
-watchOver i b (o ∷ os) w = watchOver i (step b o .board) os (hears i b o w)
+abbrev pub defersOver : Board → List Operation → Bool → Bool
+defersOver b [] defers = defers
+defersOver b (o ∷ os) defers = defersOver (step b o .board) os (defersAfter b o defers)
+
+abbrev pub watchOver : ℕ → Board → List Operation → Bool → Watch → Watch
+watchOver i b [] defers w = w
+watchOver i b (o ∷ os) defers w = watchOver i (step b o .board) os (defersAfter b o defers) (hears i b defers o w)
 
 -- a port is eight bits wide
 abbrev pub IsByte : Operation → Type 0

@@ -16,7 +16,7 @@ use Rattle.sheet.specs.Loading.{countOf}
 use Rattle.sheet.specs.Counter.{Fixed, fixedAt, awaitsCount}
 use Rattle.sheet.specs.CounterTick.{numberWritten, legal}
 use Rattle.agreement.specs.Watching.{Watch, unprogrammed, watching, oneNow, unknown, putsOff}
-use Rattle.waveform.specs.Heard.{watchOver, AllBytes}
+use Rattle.waveform.specs.Heard.{defersOver, watchOver, AllBytes}
 
 -- C1, W1: the bytes of a count, in their order, and the count that they write
 abbrev pub bytesIn : Access → ℕ → ℕ → List ℕ
@@ -63,9 +63,9 @@ laterTicks defer mode one = cond (not (triggered mode) && putsOff defer mode awa
 abbrev pub tickOpen : Bool → ℕ → Fixed Bool → Bool
 tickOpen defer mode one = eqb mode 4 && (defer && unknown one)
 
--- The opening of channel i of a board, after any calls, of which start is what was known before them. The calls of the opening are accepted, and the count is in
--- range
-pub record Opened (b : Board) (i : ℕ) (start : Watch) (m : ChannelMode) (bcd : Bool) (n : ℕ) : Type 0 where
+-- The opening of channel i of a board, after any calls, of which defers and start are what was known before them. The calls of the opening are accepted, and the
+-- count is in range
+pub record Opened (b : Board) (i : ℕ) (defers : Bool) (start : Watch) (m : ChannelMode) (bcd : Bool) (n : ℕ) : Type 0 where
   pub earlier : List Operation
   pub earlier-bytes : AllBytes earlier
   pub control : ℕ
@@ -80,9 +80,9 @@ pub record Opened (b : Board) (i : ℕ) (start : Watch) (m : ChannelMode) (bcd :
   pub events : List ℕ
   pub place : ℕ
   pub took : AllAccepted (steps b earlier) (opening i events place control access (modeNumber m) low high)
-  pub known : tickOpen (steps b earlier .defer) (modeNumber m) (oneNow (modeNumber m) (afterOne (watchOver i b earlier start))) ≡ false
+  pub known : tickOpen (defersOver b earlier defers) (modeNumber m) (oneNow (modeNumber m) (afterOne (watchOver i b earlier defers start))) ≡ false
 
-module _ (b : Board) (i : ℕ) (start : Watch) (m : ChannelMode) (bcd : Bool) (n : ℕ) (o : Opened b i start m bcd n) where
+module _ (b : Board) (i : ℕ) (defers : Bool) (start : Watch) (m : ChannelMode) (bcd : Bool) (n : ℕ) (o : Opened b i defers start m bcd n) where
   -- the board before the opening and after it
   abbrev pub before : Board
   before = steps b (o .earlier)
@@ -92,4 +92,4 @@ module _ (b : Board) (i : ℕ) (start : Watch) (m : ChannelMode) (bcd : Bool) (n
 
   -- the ticks before the one that loads
   abbrev pub lateTicks : ℕ
-  lateTicks = laterTicks (before .defer) (modeNumber m) (oneNow (modeNumber m) (afterOne (watchOver i b (o .earlier) start)))
+  lateTicks = laterTicks (defersOver b (o .earlier) defers) (modeNumber m) (oneNow (modeNumber m) (afterOne (watchOver i b (o .earlier) defers start)))

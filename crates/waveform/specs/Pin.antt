@@ -1,5 +1,6 @@
 -- From the port to the pin: a counter that a programmer has started, ticks and levels at its gate; the output and the value are then the closed forms that the sheets
--- give (crates/sheet/specs/Ticking.antt). For any board, any calls before, every mode, chip, access, radix and count in range; the ticks are made in any number of calls.
+-- give (crates/sheet/specs/Ticking.antt). For any board with three channels, any calls before, every mode, chip, access, radix and count in range; the ticks are made in
+-- any number of calls. One case is open: in mode 4 which of two ticks loads (`tickOpen` in Opened.antt).
 use Prim.Native.Nat.{ℕ, suc, _+_, _<_}
 use mathlib.Core.Bool.{Bool, true, false, not, cond, _&&_}
 use mathlib.Core.List.{List, _∷_, _++_}
@@ -18,7 +19,7 @@ use Rattle.sheet.specs.Counter.{fixedAt}
 use Rattle.agreement.specs.Words.{sheetChip}
 use Rattle.agreement.specs.Watching.{Watch, oneNow}
 use Rattle.waveform.specs.Follows.{Starts, NewBoard}
-use Rattle.waveform.specs.Heard.{watchOver, AllBytes}
+use Rattle.waveform.specs.Heard.{defersOver, watchOver, AllBytes}
 use Rattle.waveform.specs.Opened.{Opened, after, lateTicks, tickOpen, afterOne}
 use Rattle.waveform.specs.Pins.{Pulse, gateAt, clocks, pinsOver, clocksIn, lastLevel, Undisturbed, highClocks, lastCounted}
 
@@ -30,9 +31,10 @@ pub record AtThePin (b : Board) (i : ℕ) (bcd : Bool) (level : Bool) (value : �
 -- a statement about every started counter, the calls after it and what they do to its pins
 abbrev pub ForEvery : ((b : Board) (i : ℕ) (m : ChannelMode) (bcd : Bool) (n late : ℕ) (now : Board) (ps : List Pulse) → Type 0) → Type 0
 ForEvery Says =
-    (b : Board) (i : ℕ) (start : Watch) → Starts b i start → i < 3 → (m : ChannelMode) (bcd : Bool) (n : ℕ) (o : Opened b i start m bcd n)
-    → (later : List Operation) → AllBytes later → (ps : List Pulse) → pinsOver i (after b i start m bcd n o) later ≡ fixedAt ps
-    → Says b i m bcd n (lateTicks b i start m bcd n o) (steps (after b i start m bcd n o) later) ps
+    (b : Board) (i : ℕ) (defers : Bool) (start : Watch) → Starts b i defers start → i < 3
+    → (m : ChannelMode) (bcd : Bool) (n : ℕ) (o : Opened b i defers start m bcd n)
+    → (later : List Operation) → AllBytes later → (ps : List Pulse) → pinsOver i (after b i defers start m bcd n o) later ≡ fixedAt ps
+    → Says b i m bcd n (lateTicks b i defers start m bcd n o) (steps (after b i defers start m bcd n o) later) ps
 
 -- j ticks after the one that loads, the gate being as the mode wants it: high in modes 0, 2, 3 and 4, in modes 1 and 5 at any level that does not rise
 abbrev pub PortToPin : Type 0
@@ -74,5 +76,5 @@ FallHolds =
 -- on a new board it is never open which tick loads
 abbrev pub NewIsKnown : Type 0
 NewIsKnown =
-    (b : Board) (start : Watch) → NewBoard b start → (i : ℕ) (os : List Operation) (defer : Bool) (mode : ℕ)
-    → tickOpen defer mode (oneNow mode (afterOne (watchOver i b os start))) ≡ false
+    (b : Board) (defers : Bool) (start : Watch) → NewBoard b defers start → (i : ℕ) (os : List Operation) (mode : ℕ)
+    → tickOpen (defersOver b os defers) mode (oneNow mode (afterOne (watchOver i b os defers start))) ≡ false
