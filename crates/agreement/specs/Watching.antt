@@ -116,7 +116,8 @@ isKnown leftOpen b = false
 isKnown (fixedAt true) b = b
 isKnown (fixedAt false) b = not b
 
--- Where it is not known whether mode 1 was the last of modes 0 to 3: whether mode 5 waits for its trigger (S5), and with the defer flag set which tick loads in mode 4
+-- Where it is not known whether mode 1 was the last of modes 0 to 3, it is open whether mode 5 waits for its trigger (S5), and with the defer flag set which tick loads in
+-- mode 4: the counter has lost its place
 abbrev pub strays : Bool → ℕ → Fixed Bool → Bool
 strays defer mode one = unknown one && (eqb mode 5 || (eqb mode 4 && defer))
 
@@ -172,7 +173,8 @@ written chip defer one k byte new =
     (cond (keepsOutput (k .access) (k .mode)) (k .output) (cond (dropsOutput (k .access) (k .first) (k .mode)) (fixedAt false) (new .output)))
     (new .value)
 
--- S1: a write that makes a load due makes it late where the defer flag is set; not the first count of mode 4 after mode 1
+-- S1: a write that makes a load due makes it late where the defer flag is set; not the first count of mode 4 after mode 1. Of a count that waits for a trigger it does not
+-- matter: the trigger's load is not late
 abbrev pub makesDue : ℕ → Phase → Bool
 makesDue mode p = eqb mode 0 || (eqb mode 4 || isFirst p)
 
@@ -200,7 +202,8 @@ watchCounts (unprogrammed gate one) number = unprogrammed gate one
 watchCounts (watching k late one) number =
     cond (eqb number 0) (watching k late one) (watching (standing k (miscounted (k .phase)) (k .output) leftOpen) late one)
 
--- A load cycle by hand takes a load that is due, or makes it due where it was late; elsewhere it does nothing (01: "Other states: no change")
+-- A load cycle by hand makes a load due that was late, and takes one that is due: where the counter then stands is not followed. Elsewhere it does nothing (01: "Other
+-- states: no change")
 abbrev pub cycled : Phase → Bool → Counter → Counter
 cycled loading late k = cond late k (standing k lost (k .output) leftOpen)
 cycled awaitsCount late k = k

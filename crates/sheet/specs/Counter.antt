@@ -1,5 +1,6 @@
--- One counter as the sheets draw it: what a programmer has written to it and what its pins did, and from these alone its output and its value, wherever the sheets
--- fix them; elsewhere they are left open. It starts with the mode set: "Before a counter is programmed its mode, count and output are not defined" (C5).
+-- One counter as the sheets draw it: what a programmer has written to it and what its pins did, and from these alone its output and its value. Where the sheets leave
+-- a point open and docs/TICK.md decides it the counter goes by the decision, and docs/SHEETS.md lists these points ("Left open"); everything else that the sheets do not
+-- fix is open here. It starts with the mode set: "Before a counter is programmed its mode, count and output are not defined" (C5).
 use Prim.Native.Nat.{ℕ}
 use mathlib.Core.Bool.{Bool}
 use Rattle.sheet.specs.ControlByte.{Access}
@@ -14,7 +15,7 @@ pub data Fixed (A : Type 0) : Type 0 where
 pub data Phase : Type 0 where
   -- no count is complete: none since the mode set, or in mode 0 a two-byte count that has begun
   awaitsCount : Phase
-  -- M1, M5: "loading waits for the tick after a trigger"
+  -- M1: "The tick after a trigger loads"; M5: "loading waits for the tick after a trigger"
   awaitsTrigger : Phase
   -- the next tick loads the count written
   loading : Phase

@@ -43,7 +43,7 @@ at chip k n j =
 abbrev pub nowhere : Counter → Counter
 nowhere k = standing k lost leftOpen leftOpen
 
--- a load, at the begin of a period or, in mode 3, of its low half
+-- a load, at the beginning of a period or, in mode 3, of its low half
 abbrev pub loadHalf : Chip → Bool → Fixed ℕ → Counter → Counter
 loadHalf chip low leftOpen k = nowhere k
 loadHalf chip low (fixedAt n) k = at chip k n (cond low (highTicks n) 0)
@@ -55,7 +55,7 @@ load chip low k = loadHalf chip low (toLoad k) k
 abbrev pub beginsLow : ℕ → ℕ → ℕ → Bool
 beginsLow mode n j = eqb mode 3 && eqb j (highTicks n)
 
--- M2: "the next tick reloads"; M3: "At zero the output changes and the element is loaded again": with the last tick of a period, in mode 3 of each half. "A count
+-- M2: "the next tick reloads"; M3-8253, M3-8254: with the output's change the element is loaded. So with the last tick of a period, in mode 3 of each half. "A count
 -- written meanwhile is used at the next load". N4: the other modes do not reload
 abbrev pub reloads : ℕ → ℕ → ℕ → Bool
 reloads mode n j = ((eqb mode 2 || eqb mode 3) && eqb j n) || beginsLow mode n j

@@ -17,8 +17,8 @@ firstOnly next loading = loading
 firstOnly next (counting n j) = counting n j
 firstOnly next lost = lost
 
--- Where a complete count leads. M0, M4, M4-8254: "The tick after a completed load loads", of every count; so it does with the first one of modes 2 and 3
--- (docs/TICK.md, T2). M1, M5: the first one waits for a trigger. M1, M2, M3, M5: "A count written meanwhile" waits, for a trigger or for the next load
+-- Where a complete count leads. M0, M4: "The tick after a completed load loads", of every count; M4-8254 says it of one completed while counting, and for the 8253 that is
+-- decided (docs/DECISIONS.md 15). So it does with the first count of modes 2 and 3 (docs/TICK.md, T2). M1, M5: the first one waits for a trigger. M1, M2, M3, M5: "A count written meanwhile" waits, for a trigger or for the next load
 abbrev pub onCount : ℕ → Phase → Phase
 onCount mode p =
     getD

@@ -1,4 +1,4 @@
--- What the sheets fix of a counter that runs with nothing written to it: its output and its value, j ticks after the tick that loaded the count n. Lines N1 to N3,
+-- What the sheets fix of a counter that runs with nothing written to it: its output and its value, j ticks after the tick that loaded the count n. Lines N1 to N4,
 -- M0 to M5, M3-8253 and M3-8254 of docs/SHEETS.md. A count is 1 to 65,536, in BCD 1 to 10,000; written down, the largest is 0.
 use Prim.Native.Nat.{ℕ, _+_, _-_, _*_, _/_, _%_}
 use mathlib.Core.Bool.{Bool, true, false, not, cond}
@@ -9,7 +9,7 @@ use Rattle.numbers.specs.Modulo.{minusMod}
 use Rattle.numbers.specs.Digits.{packed}
 use Rattle.numbers.specs.Radix.{radixCounts}
 
--- the two chips, which part in mode 3 only
+-- the two chips, whose ticks part in mode 3 only
 pub data Chip : Type 0 where
   chip8253 : Chip
   chip8254 : Chip
