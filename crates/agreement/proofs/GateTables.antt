@@ -18,7 +18,7 @@ use Rattle.channel.proofs.Pick.{of-pick, pick-same}
 use Rattle.gate.specs.Gate as gate
 use Rattle.tick.specs.Due.{triggered}
 use Rattle.sheet.specs.Gate.{fallEffect, riseEffect}
-use Rattle.sheet.specs.Counter.{Fixed, fixedAt, loading}
+use Rattle.sheet.specs.Counter.{Fixed, fixedAt}
 use Rattle.agreement.specs.Gating.{underway, goesOn}
 use Rattle.agreement.specs.Watching.{IsFixed}
 use Rattle.agreement.proofs.CountsDown.{countsDown}

@@ -72,9 +72,3 @@ module _ (k : ℕ) (c : Channel) where
 
   pub counts-state : times k count c .counter .«channel_state» ≡ c .counter .«channel_state»
   counts-state = ap (λ (d : Channel). d .counter .«channel_state») (counted-at-once k c)
-
-  pub counts-cycles : times k count c .counter .«cycles_in_state» ≡ c .counter .«cycles_in_state»
-  counts-cycles = ap (λ (d : Channel). d .counter .«cycles_in_state») (counted-at-once k c)
-
-  pub counts-dirty : times k count c .dirty ≡ c .dirty
-  counts-dirty = ap (λ (d : Channel). d .dirty) (counted-at-once k c)

@@ -1,6 +1,6 @@
 -- S4: on the 8254 the high half of an even count has the values of the next odd one, and of an odd count, till its last tick, those of the even one below. Numbers alone.
 -- Assumes nothing.
-use Prim.Native.Nat.{ℕ, suc, _-_, _*_, _%_, _<_, _≤_}
+use Prim.Native.Nat.{ℕ, suc, _-_, _*_, _%_, _<_}
 use mathlib.Core.Bool.{true}
 use mathlib.Core.Path.{_≡_, sym, _∙_}
 use native.Mathlib.Nat.{mod-eq-of-lt}

@@ -12,7 +12,7 @@ use Rattle.channel.specs.declared.PitType.{PitType}
 use Rattle.channel.specs.declared.PitType.the-variants.{Model8253, Model8254}
 use Rattle.tick.specs.Taken.{squareTakes}
 use Rattle.tick.specs.Tick.{lingersOn}
-use Rattle.sheet.specs.Ticking.{Chip, chip8253, chip8254, oddValue}
+use Rattle.sheet.specs.Ticking.{Chip, chip8253, oddValue}
 use Rattle.agreement.specs.Words.{sheetChip}
 use Rattle.agreement.proofs.SquarePlace.{halfTicks}
 

@@ -9,8 +9,6 @@ use Rattle.channel.specs.declared.ChannelMode.{ChannelMode}
 use Rattle.channel.specs.declared.ChannelMode.the-variants.{InterruptOnTerminalCount, HardwareRetriggerableOneShot, RateGenerator, SquareWaveGenerator, SoftwareTriggeredStrobe, HardwareTriggeredStrobe}
 use Rattle.channel.specs.declared.ChannelState.{ChannelState}
 use Rattle.channel.specs.declared.ChannelState.the-variants.{WaitingForLoadTrigger}
-use Rattle.channel.specs.declared.LoadType.{LoadType}
-use Rattle.channel.specs.declared.LoadType.the-variants.{InitialLoad, SubsequentLoad}
 use Rattle.channel.specs.declared.PitType.{PitType}
 use Rattle.channel.specs.Modes.{modeNumber}
 use Rattle.channel.specs.Queries.{doesRetrigger}
@@ -18,7 +16,7 @@ use Rattle.channel.specs.Shared.{waitsForReload}
 use Rattle.gate.specs.Gate as gate
 use Rattle.sheet.specs.Gate.{fallEffect}
 use Rattle.sheet.specs.Ticking.{held, valueAfter}
-use Rattle.sheet.specs.Counter.{Fixed, leftOpen, fixedAt, Phase, awaitsCount, awaitsTrigger, loading, counting, lost, standing}
+use Rattle.sheet.specs.Counter.{Fixed, fixedAt, Phase, awaitsCount, awaitsTrigger, loading, counting, lost}
 use Rattle.sheet.specs.CounterGate.{gated}
 use Rattle.agreement.specs.Gating.{underway, goesOn}
 use Rattle.agreement.specs.Words.{sheetChip}
@@ -27,7 +25,7 @@ use Rattle.agreement.specs.Watching.{watching, IsFixed, HoldsValue}
 use Rattle.agreement.proofs.Gate.{raises-agree}
 use Rattle.agreement.proofs.TrackSquare.{value-there}
 use Rattle.agreement.proofs.Tracking.{Core, coreOf, view, Rules, down, rate, square, paused, Standing, AwaitsCount, AwaitsTrigger, Loading, Lost, PhaseAt, Tracks}
-use Rattle.agreement.proofs.GateCores.{gatedCore, fallState, level-core, fall-core, half-gated, lands}
+use Rattle.agreement.proofs.GateCores.{gatedCore, fallState, level-core, fall-core, lands}
 use Rattle.agreement.proofs.GateTables.{quiet-fall, raised-holds, still-raises, started-loads, down-keeps-level, standing-not, waiting-not, is-zero, raised}
 use Rattle.agreement.proofs.TrackRise.{gateStep}
 

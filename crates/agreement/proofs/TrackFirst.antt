@@ -7,8 +7,6 @@ use Rattle.channel.specs.declared.ChannelMode.{ChannelMode}
 use Rattle.channel.specs.declared.ChannelMode.the-variants.{InterruptOnTerminalCount}
 use Rattle.channel.specs.declared.ChannelState.the-variants.{WaitingForReload}
 use Rattle.channel.specs.declared.LoadState.the-variants.{WaitingForLsb, WaitingForMsb}
-use Rattle.channel.specs.declared.LoadType.{LoadType}
-use Rattle.channel.specs.declared.LoadType.the-variants.{InitialLoad, SubsequentLoad}
 use Rattle.channel.specs.declared.PitType.{PitType}
 use Rattle.channel.specs.declared.RwMode.the-variants.{LsbMsb}
 use Rattle.channel.specs.Modes.{modeNumber}
@@ -16,11 +14,9 @@ use Rattle.channel.specs.Shared.{changeChannelState, changeOutputState}
 use Rattle.channel.proofs.Modes.{every-mode}
 use Rattle.load.specs.Write.{putRegister, stopsOnLowByte, writeByte}
 use Rattle.sheet.specs.Gate.{fallEffect}
-use Rattle.sheet.specs.Ticking.{Chip, chip8253, chip8254}
-use Rattle.sheet.specs.Counter.{Fixed, leftOpen, fixedAt, Phase, awaitsCount, awaitsTrigger, loading, counting, lost}
-use Rattle.sheet.specs.CounterWrite.{lowered, outputOnFirst, complete}
-use Rattle.agreement.specs.Words.{sheetChip}
-use Rattle.agreement.specs.Watching.{watching, IsFixed}
+use Rattle.sheet.specs.Counter.{Fixed, fixedAt, Phase, awaitsCount, awaitsTrigger, loading, counting, lost}
+use Rattle.sheet.specs.CounterWrite.{complete}
+use Rattle.agreement.specs.Watching.{watching}
 use Rattle.agreement.proofs.Tracking.{Core, coreOf, view, Rules, down, rate, square, paused, Standing, PhaseAt, Holds, Tracks, tracked}
 
 -- the first byte of two

@@ -13,7 +13,7 @@ use Rattle.channel.specs.Modes.{modeNumber}
 use Rattle.channel.specs.Queries.{doesRetrigger}
 use Rattle.channel.specs.Shared.{waitsForReload}
 use Rattle.gate.specs.Gate as gate
-use Rattle.sheet.specs.Gate.{fallEffect, riseEffect}
+use Rattle.sheet.specs.Gate.{riseEffect}
 use Rattle.sheet.specs.Counter.{Fixed, Phase, awaitsCount, awaitsTrigger, loading, counting, lost, Counter}
 use Rattle.sheet.specs.CounterGate.{onTrigger, gated, edge}
 use Rattle.tick.specs.Due.{triggered}

@@ -12,8 +12,7 @@ use Rattle.channel.specs.declared.ChannelMode.{ChannelMode}
 use Rattle.channel.specs.declared.ChannelMode.the-variants.{InterruptOnTerminalCount, HardwareRetriggerableOneShot, RateGenerator, SquareWaveGenerator, SoftwareTriggeredStrobe, HardwareTriggeredStrobe}
 use Rattle.channel.specs.declared.ChannelState.{ChannelState}
 use Rattle.channel.specs.declared.ChannelState.the-variants.{WaitingForReload, WaitingForGate, DeferLoadCycle, WaitingForLoadCycle, WaitingForLoadTrigger, Counting}
-use Rattle.channel.specs.declared.LoadType.{LoadType}
-use Rattle.channel.specs.declared.LoadType.the-variants.{InitialLoad, SubsequentLoad}
+use Rattle.channel.specs.declared.LoadType.the-variants.{SubsequentLoad}
 use Rattle.channel.specs.declared.PitType.{PitType}
 use Rattle.channel.specs.Modes.{modeNumber}
 use Rattle.channel.specs.Queries.{doesRetrigger}

@@ -1,7 +1,7 @@
 -- M0 to M5 in step with the sheets' counter: every whole count written. Assumes nothing.
 use Prim.Native.Nat.{ℕ, suc, _-_, _%_, _<_, _≤_}
 use mathlib.Core.Bool.{Bool, true, false, true≢false, false≢true, not, cond, _&&_}
-use mathlib.Core.Logic.{_⊎_, inl, inr, ⊎-elim}
+use mathlib.Core.Logic.{_⊎_, inl, ⊎-elim}
 use mathlib.Core.Path.{_≡_, refl, sym, ap, ap₂, _∙_, subst}
 use native.Mathlib.Nat.{mod-eq-of-lt}
 use native.Mathlib.Omega.{arith}
@@ -22,18 +22,17 @@ use Rattle.channel.specs.declared.PitType.the-variants.{Model8254}
 use Rattle.channel.specs.declared.RwMode.the-variants.{LsbMsb}
 use Rattle.channel.specs.Modes.{modeNumber}
 use Rattle.channel.specs.Queries.{doesRetrigger}
-use Rattle.channel.specs.Shared.{waitsForReload, changeChannelState}
+use Rattle.channel.specs.Shared.{changeChannelState}
 use Rattle.load.specs.Finalize.{waitingState, firstState, loadsAgain, armedBy, completeLoad, finalizeLoad}
 use Rattle.load.specs.Write.{putRegister}
 use Rattle.tick.specs.Due.{triggered}
 use Rattle.sheet.specs.Ticking.{Chip, chip8254, held, highTicks, squareHigh, valueAfter}
-use Rattle.sheet.specs.Counter.{Fixed, leftOpen, Phase, awaitsCount, awaitsTrigger, loading, counting, lost}
+use Rattle.sheet.specs.Counter.{Fixed, Phase, awaitsCount, awaitsTrigger, loading, counting, lost}
 use Rattle.agreement.specs.Gating.{underway}
 use Rattle.agreement.specs.Words.{sheetChip}
 use Rattle.agreement.specs.Watching.{watching, isFirst, isKnown, firstPhase, disturbs, otherHalf, countPhase, makesDue, putsOff, IsFixed, HoldsValue}
 use Rattle.agreement.proofs.CountsDown.{countsDown}
 use Rattle.agreement.proofs.Departures.{first-plain, waits-so, first-come, four-tests, FiveStarts, by-trigger, at-once, either, five-tests, no-disturb, alike-by, disturbed-facts, and-true}
-use Rattle.agreement.proofs.GateTables.{standing-not}
 use Rattle.agreement.proofs.Square.{flagOf}
 use Rattle.agreement.proofs.SquareOther.{high-stands, longer-stands, shorter-stands, longer-value, shorter-value}
 use Rattle.agreement.proofs.SquarePlace.{place as placeIn, Stands, high-there}

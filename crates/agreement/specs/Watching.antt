@@ -166,8 +166,8 @@ abbrev pub dropsOutput : Access → Fixed ℕ → ℕ → Bool
 dropsOutput access first mode = not (completes access first) && eqb mode 0
 
 -- a byte written, the departures put in
-abbrev pub written : Chip → Bool → Fixed Bool → Counter → ℕ → Counter → Counter
-written chip defer one k byte new =
+abbrev pub byteWritten : Chip → Bool → Fixed Bool → Counter → ℕ → Counter → Counter
+byteWritten chip defer one k byte new =
     standing new
     (cond (completes (k .access) (k .first)) (countPhase chip defer (k .mode) one (lowOf (k .access) (k .first) byte) (k .phase)) (new .phase))
     (cond (keepsOutput (k .access) (k .mode)) (k .output) (cond (dropsOutput (k .access) (k .first) (k .mode)) (fixedAt false) (new .output)))
@@ -187,7 +187,7 @@ lateBy defer one k late =
 
 abbrev pub watchWrite : Chip → Bool → Watch → ℕ → Watch
 watchWrite chip defer (unprogrammed gate one) byte = unprogrammed gate one
-watchWrite chip defer (watching k late one) byte = watching (written chip defer one k byte (write chip k byte)) (lateBy defer one k late) one
+watchWrite chip defer (watching k late one) byte = watching (byteWritten chip defer one k byte (write chip k byte)) (lateBy defer one k late) one
 
 -- Counts made by hand are not the chip's: the value is not known any more, and from a counter that counts neither is its place. A load that is due comes all the same
 abbrev pub miscounted : Phase → Phase

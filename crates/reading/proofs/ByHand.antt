@@ -33,7 +33,7 @@ module _ (i : ℕ) where
   no-ticks-no-loads b [] none = tt
   no-ticks-no-loads b (o ∷ os) all =
       let later = acceptedOf (step b o .board) os in
-      by-reply b o (λ (reply : Reply Value). NoTicks (unlessRefused reply o later) → NoLoads i b (o ∷ os))
+      by-reply b o (λ (reply : Reply Value). NoTicks (unlessRefused reply later (o ∷ later)) → NoLoads i b (o ∷ os))
       (λ number e none. (no-tick b o (no-ticks-refused b o number e), no-ticks-no-loads (step b o .board) os none))
       (λ value e none. (no-tick b o (rw (none .0)), no-ticks-no-loads (step b o .board) os (none .1)))
       all
@@ -42,7 +42,7 @@ module _ (i : ℕ) where
   counts-by-hand b [] none = refl
   counts-by-hand b (o ∷ os) all =
       let later = acceptedOf (step b o .board) os in
-      by-reply b o (λ (reply : Reply Value). NoTicks (unlessRefused reply o later) → countsOn i b (o ∷ os) ≡ handOn i (unlessRefused reply o later))
+      by-reply b o (λ (reply : Reply Value). NoTicks (unlessRefused reply later (o ∷ later)) → countsOn i b (o ∷ os) ≡ handOn i (unlessRefused reply later (o ∷ later)))
       (λ number e none. rw (e, zero-add) (counts-by-hand (step b o .board) os none))
       (λ value e none. ap₂ (λ (m n : ℕ). m + n) (one-by-hand b o (none .0) (value, e)) (counts-by-hand (step b o .board) os (none .1)))
       all

@@ -168,7 +168,7 @@ module _ (b : Board) (three : length (b .channels) ≡ 3) (i : ℕ) (on : i < 3)
   first-passes : (o : Operation) (os : List Operation) → AllMayPass i (acceptedOf b (o ∷ os)) → Passed o × AllMayPass i (acceptedOf (step b o .board) os)
   first-passes o os =
       let later = acceptedOf (step b o .board) os in
-      by-reply b o (λ (reply : Reply Value). AllMayPass i (unlessRefused reply o later) → Passed o × AllMayPass i later)
+      by-reply b o (λ (reply : Reply Value). AllMayPass i (unlessRefused reply later (o ∷ later)) → Passed o × AllMayPass i later)
       (λ number e may. (refused-passes o number e, may))
       (λ value e may. (accepted-passes o (may .0) (value, e), may .1))
 

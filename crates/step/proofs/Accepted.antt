@@ -24,7 +24,7 @@ pub all-accepted : (b : Board) (os : List Operation) → AllAccepted b (accepted
 all-accepted b [] = tt
 all-accepted b (o ∷ os) =
     let after = acceptedOf (step b o .board) os in
-    by-reply b o (λ (reply : Reply Value). AllAccepted b (unlessRefused reply o after))
+    by-reply b o (λ (reply : Reply Value). AllAccepted b (unlessRefused reply after (o ∷ after)))
     (λ number e. subst (λ (d : Board). AllAccepted d after) (refused-leaves b o number e .0) (all-accepted (step b o .board) os))
     (λ value e. ((value, e), all-accepted (step b o .board) os))
 
@@ -32,7 +32,7 @@ pub steps-accepted : (b : Board) (os : List Operation) → steps b os ≡ steps 
 steps-accepted b [] = refl
 steps-accepted b (o ∷ os) =
     let after = acceptedOf (step b o .board) os in
-    by-reply b o (λ (reply : Reply Value). steps (step b o .board) os ≡ steps b (unlessRefused reply o after))
+    by-reply b o (λ (reply : Reply Value). steps (step b o .board) os ≡ steps b (unlessRefused reply after (o ∷ after)))
     (λ number e. steps-accepted (step b o .board) os ∙ ap (λ (d : Board). steps d after) (refused-leaves b o number e .0))
     (λ value e. steps-accepted (step b o .board) os)
 
@@ -40,5 +40,5 @@ steps-accepted b (o ∷ os) =
 pub own-accepted : (b : Board) (os : List Operation) → AllAccepted b os → acceptedOf b os ≡ os
 own-accepted b [] took = refl
 own-accepted b (o ∷ os) took =
-    ap (λ (reply : Reply Value). unlessRefused reply o (acceptedOf (step b o .board) os)) (took .0 .1)
+    ap (λ (reply : Reply Value). unlessRefused reply (acceptedOf (step b o .board) os) (o ∷ acceptedOf (step b o .board) os)) (took .0 .1)
     ∙ ap (λ (ps : List Operation). o ∷ ps) (own-accepted (step b o .board) os (took .1))

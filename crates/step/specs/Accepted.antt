@@ -15,12 +15,12 @@ abbrev pub AllAccepted : Board → List Operation → Type 0
 AllAccepted b [] = Unit
 AllAccepted b (o ∷ os) = IsAccepted b o × AllAccepted (step b o .board) os
 
--- a call before others, where its reply is no refusal
-abbrev pub unlessRefused : Reply Value → Operation → List Operation → List Operation
-unlessRefused (refused number) o os = os
-unlessRefused (accepted value) o os = o ∷ os
+-- what a refused call leaves, or what an accepted one makes of it
+abbrev pub unlessRefused : {A : Type 0} → Reply Value → A → A → A
+unlessRefused (refused number) old new = old
+unlessRefused (accepted value) old new = new
 
 -- the accepted calls of a list, each judged when its turn comes
 abbrev pub acceptedOf : Board → List Operation → List Operation
 acceptedOf b [] = []
-acceptedOf b (o ∷ os) = unlessRefused (step b o .reply) o (acceptedOf (step b o .board) os)
+acceptedOf b (o ∷ os) = unlessRefused (step b o .reply) (acceptedOf (step b o .board) os) (o ∷ acceptedOf (step b o .board) os)

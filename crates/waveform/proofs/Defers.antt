@@ -1,8 +1,7 @@
 -- Whether the board defers is what its calls tell: an accepted catch-up sets the flag, and no other call moves it. Assumes nothing.
 use Prim.Native.Nat.{ℕ}
 use mathlib.Core.Bool.{Bool, true, false, cond}
-use mathlib.Core.List.{List, [], _∷_}
-use mathlib.Core.Path.{_≡_, refl, sym, ap, _∙_, subst}
+use mathlib.Core.Path.{_≡_, refl, ap}
 use Rattle.refusal.specs.Reply.{Reply, refused, accepted}
 use Rattle.refusal.proofs.Apart.{refused-not}
 use Rattle.time.specs.Time.{Yield}
@@ -10,13 +9,14 @@ use Rattle.board.specs.declared.Board.{Board}
 use Rattle.board.specs.Outcome.{Outcome, Value}
 use Rattle.clock.specs.Clock.{elapsed, yielding, elapse, catchUp, run}
 use Rattle.step.specs.Operation.{Operation, WritePort, ReadPort, SetChannelGate, Counts, LoadCycle, CatchUp, Run, Reset, GetOutputState, GetChannelCount, DoesChannelRetrigger, IsDirty, GetTimerAccum, WorkOff}
-use Rattle.step.specs.Step.{step, steps}
+use Rattle.step.specs.Accepted.{unlessRefused}
+use Rattle.step.specs.Step.{step}
 use Rattle.step.specs.Time.{isTimeCall}
 use Rattle.step.proofs.Accepted.{by-reply}
 use Rattle.step.proofs.Kept.{time-kept}
 use Rattle.step.proofs.Leaves.{refused-leaves}
 use Rattle.step.proofs.Owing.{by-timely}
-use Rattle.waveform.specs.Heard.{catchesUp, unlessRefused, defersAfter, defersOver}
+use Rattle.waveform.specs.Heard.{catchesUp, defersAfter}
 
 -- an accepted call of time leaves the flag that it is to leave
 yielded-flag : (b : Board) (warp : ℕ) (flag : Bool) (made : Reply Yield) (value : Value) → yielding b warp flag made .reply ≡ accepted value

@@ -15,6 +15,7 @@ use Rattle.board.specs.Board.{channelAt}
 use Rattle.board.specs.Making.{fresh}
 use Rattle.board.specs.Outcome.{Value}
 use Rattle.step.specs.Operation.{Operation}
+use Rattle.step.specs.Accepted.{unlessRefused}
 use Rattle.step.specs.Step.{step, steps}
 use Rattle.step.proofs.Accepted.{by-reply}
 use Rattle.step.proofs.Kept.{settings-kept}
@@ -23,7 +24,7 @@ use Rattle.step.proofs.Three.{fresh-three, step-three}
 use Rattle.sheet.specs.Counter.{leftOpen, fixedAt}
 use Rattle.agreement.specs.Watching.{Watch, unprogrammed, ShowsIn}
 use Rattle.agreement.proofs.Tracking.{coreOf, Tracks, not-yet, tracked}
-use Rattle.waveform.specs.Heard.{unlessRefused, heard, hears, watchOver, IsByte, AllBytes}
+use Rattle.waveform.specs.Heard.{heardOf, hears, watchOver, IsByte, OnlyBytes}
 use Rattle.waveform.specs.Follows.{AnyBoard, NewBoard, Follows}
 use Rattle.waveform.proofs.Defers.{defer-told}
 use Rattle.waveform.proofs.Turns.{turn}
@@ -32,12 +33,12 @@ use Rattle.waveform.proofs.Turns.{turn}
 call-tracks : (b : Board) → length (b .channels) ≡ 3 → (i : ℕ) → i < 3 → (w : Watch) → Tracks (b .model) w (coreOf (channelAt b i)) → (o : Operation) → IsByte o
     → Tracks (b .model) (hears i b (b .defer) o w) (coreOf (channelAt (step b o .board) i))
 call-tracks b three i on w now o small =
-    by-reply b o (λ (reply : Reply Value). Tracks (b .model) (unlessRefused reply w (heard i b (b .defer) o w)) (coreOf (channelAt (step b o .board) i)))
+    by-reply b o (λ (reply : Reply Value). Tracks (b .model) (unlessRefused reply w (heardOf i b (b .defer) o w)) (coreOf (channelAt (step b o .board) i)))
     (λ number e. subst (λ (d : Board). Tracks (b .model) w (coreOf (channelAt d i))) (sym (refused-leaves b o number e .0)) now)
     (λ value e. turn b three i on w now o small value e)
 
 calls-track : (b : Board) → length (b .channels) ≡ 3 → (i : ℕ) → i < 3 → (w : Watch) → Tracks (b .model) w (coreOf (channelAt b i))
-    → (os : List Operation) → AllBytes os → Tracks (b .model) (watchOver i b os (b .defer) w) (coreOf (channelAt (steps b os) i))
+    → (os : List Operation) → OnlyBytes os → Tracks (b .model) (watchOver i b os (b .defer) w) (coreOf (channelAt (steps b os) i))
 calls-track b three i on w now [] small = now
 calls-track b three i on w now (o ∷ os) small =
     let same : step b o .board .model ≡ b .model = settings-kept b o .0 in

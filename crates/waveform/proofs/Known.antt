@@ -2,7 +2,7 @@
 use Prim.Native.Nat.{ℕ, zero, suc, _+_}
 use mathlib.Core.Bool.{Bool, true, false, cond, _&&_, _||_}
 use mathlib.Core.List.{List, [], _∷_}
-use mathlib.Core.Path.{_≡_, refl, sym, ap, _∙_, subst}
+use mathlib.Core.Path.{_≡_, refl, sym, subst}
 use lib.Dec.{eqb}
 use Rattle.numbers.specs.Times.{times}
 use Rattle.refusal.specs.Reply.{Reply, refused, accepted}
@@ -10,13 +10,14 @@ use Rattle.board.specs.declared.Board.{Board}
 use Rattle.board.specs.Outcome.{Value}
 use Rattle.step.specs.Operation.{Operation, WritePort, ReadPort, SetChannelGate, Counts, LoadCycle, CatchUp, Run, Reset, GetOutputState, GetChannelCount, DoesChannelRetrigger, IsDirty, GetTimerAccum, WorkOff}
 use Rattle.step.specs.Owed.{madeBy}
+use Rattle.step.specs.Accepted.{unlessRefused}
 use Rattle.step.specs.Step.{step}
 use Rattle.sheet.specs.ControlByte.{Access, Request, noCounter, latchCounter, program, requestOf}
 use Rattle.sheet.specs.Ticking.{Chip}
-use Rattle.sheet.specs.Counter.{Fixed, leftOpen, fixedAt, Counter}
+use Rattle.sheet.specs.Counter.{Fixed, fixedAt}
 use Rattle.agreement.specs.Words.{sheetChip}
-use Rattle.agreement.specs.Watching.{Watch, unprogrammed, watching, oneNow, unknown, watchProgram, watchReset, watchTick, watchGate, watchWrite, watchCounts, watchCycle}
-use Rattle.waveform.specs.Heard.{heardControl, heard, unlessRefused, hears, defersAfter, defersOver, watchOver}
+use Rattle.agreement.specs.Watching.{Watch, unprogrammed, watching, oneNow, unknown, watchProgram, watchTick, watchGate, watchWrite, watchCounts, watchCycle}
+use Rattle.waveform.specs.Heard.{heardControl, heardOf, hears, defersAfter, defersOver, watchOver}
 use Rattle.waveform.specs.Opened.{afterOne, tickOpen}
 use Rattle.waveform.specs.Pin.{NewIsKnown}
 
@@ -67,7 +68,7 @@ control-known i noCounter w known = known
 control-known i (latchCounter n) w known = known
 control-known i (program n access mode bcd) w known = either (eqb n i) (watchProgram w access mode bcd) w (program-known w access mode bcd known) known
 
-heard-known : (i : ℕ) (b : Board) (defers : Bool) (o : Operation) (w : Watch) → Known w → Known (heard i b defers o w)
+heard-known : (i : ℕ) (b : Board) (defers : Bool) (o : Operation) (w : Watch) → Known w → Known (heardOf i b defers o w)
 heard-known i b defers (WritePort port byte events place) w known =
     either (eqb port (0x40 + i)) (watchWrite (sheetChip (b .model)) defers w byte) (cond (eqb port 0x43) (heardControl i (requestOf byte) w) w)
     (write-known (sheetChip (b .model)) defers w byte known)
@@ -94,7 +95,7 @@ over-known : (i : ℕ) (b : Board) (os : List Operation) (defers : Bool) (w : Wa
 over-known i b [] defers w known = known
 over-known i b (o ∷ os) defers w known =
     over-known i (step b o .board) os (defersAfter b o defers) (hears i b defers o w)
-    (unless-known (step b o .reply) w (heard i b defers o w) known (heard-known i b defers o w known))
+    (unless-known (step b o .reply) w (heardOf i b defers o w) known (heard-known i b defers o w known))
 
 never-open : (defer : Bool) (mode : ℕ) (one : Fixed Bool) → unknown one ≡ false → tickOpen defer mode one ≡ false
 never-open defer mode one known = rw known (go (eqb mode 4) defer)

@@ -18,7 +18,7 @@ use Rattle.sheet.specs.CounterWrite.{outputOnCount, outputOnFirst}
 use Rattle.sheet.specs.CounterGate.{edge}
 use Rattle.agreement.specs.Watching.{Watch, unprogrammed, watching, oneNow, gateOf, watchProgram, afterFall, edged, watchGate, keepsOutput, firstPhase, makesDue, putsOff, watchWrite}
 use Rattle.agreement.proofs.Departures.{first-plain}
-use Rattle.waveform.specs.Opened.{bytesIn, writtenIn, triggered, afterOne, tickOpen}
+use Rattle.waveform.specs.Opened.{bytesIn, writtenIn, triggerStarts, afterOne, tickOpen}
 
 -- what is heard of the bytes and of the trigger
 abbrev pub bytesHeard : Chip → Bool → List ℕ → Watch → Watch
@@ -31,7 +31,7 @@ triggerHeard false w = w
 
 abbrev pub openingHeard : Chip → Bool → Access → ℕ → Bool → ℕ → ℕ → Watch → Watch
 openingHeard chip defer access mode bcd low high w =
-    triggerHeard (triggered mode) (bytesHeard chip defer (bytesIn access low high) (watchProgram (watchGate w true) access mode bcd))
+    triggerHeard (triggerStarts mode) (bytesHeard chip defer (bytesIn access low high) (watchProgram (watchGate w true) access mode bcd))
 
 -- the gate is high when the mode is set
 raised-by : (was : Bool) (k : Counter) → k .gate ≡ was → edged was true k (edge was true k) .gate ≡ true
@@ -52,9 +52,9 @@ starts (unprogrammed gate one) access mode bcd = refl
 starts (watching k late one) access mode bcd = refl
 
 -- what the tables say of a mode that a trigger starts, and of the others
-trigger-loads : (m : ChannelMode) → triggered (modeNumber m) ≡ true → riseEffect (modeNumber m) .loads ≡ true
+trigger-loads : (m : ChannelMode) → triggerStarts (modeNumber m) ≡ true → riseEffect (modeNumber m) .loads ≡ true
 trigger-loads =
-    every-mode (λ (m : ChannelMode). triggered (modeNumber m) ≡ true → riseEffect (modeNumber m) .loads ≡ true)
+    every-mode (λ (m : ChannelMode). triggerStarts (modeNumber m) ≡ true → riseEffect (modeNumber m) .loads ≡ true)
     (λ t. absurd (false≢true t)) (λ t. refl) (λ t. refl) (λ t. refl) (λ t. absurd (false≢true t)) (λ t. refl)
 
 four-first : (defer : Bool) (one : Fixed Bool) → tickOpen defer 4 one ≡ false → firstPhase defer 4 one ≡ loading
@@ -62,10 +62,10 @@ four-first true leftOpen fine = absurd (true≢false fine)
 four-first false leftOpen fine = refl
 four-first defer (fixedAt known) fine = refl
 
-first-loads : (defer : Bool) (one : Fixed Bool) (m : ChannelMode) → triggered (modeNumber m) ≡ false → tickOpen defer (modeNumber m) one ≡ false
+first-loads : (defer : Bool) (one : Fixed Bool) (m : ChannelMode) → triggerStarts (modeNumber m) ≡ false → tickOpen defer (modeNumber m) one ≡ false
     → firstPhase defer (modeNumber m) one ≡ loading
 first-loads defer one =
-    every-mode (λ (m : ChannelMode). triggered (modeNumber m) ≡ false → tickOpen defer (modeNumber m) one ≡ false → firstPhase defer (modeNumber m) one ≡ loading)
+    every-mode (λ (m : ChannelMode). triggerStarts (modeNumber m) ≡ false → tickOpen defer (modeNumber m) one ≡ false → firstPhase defer (modeNumber m) one ≡ loading)
     (λ t fine. first-plain defer 0 one refl refl)
     (λ t fine. absurd (true≢false t))
     (λ t fine. first-plain defer 2 one refl refl)
@@ -134,7 +134,7 @@ module _ (chip : Chip) (defer : Bool) (m : ChannelMode) (bcd : Bool) (one : Fixe
       (cond (riseEffect mode .loads) false late) one
   pulled access w p o = refl
 
-  triggered-by : (t : Bool) → triggered mode ≡ t → (access : Access) (w : ℕ) (o : Fixed Bool)
+  triggered-by : (t : Bool) → triggerStarts mode ≡ t → (access : Access) (w : ℕ) (o : Fixed Bool)
       → (o' : Fixed Bool)
       × (triggerHeard t (watching (written access w o) late one) ≡ watching (counter access leftOpen (fixedAt w) loading o') (not t && late) one)
   triggered-by true is access w o = (
@@ -149,8 +149,8 @@ module _ (chip : Chip) (defer : Bool) (m : ChannelMode) (bcd : Bool) (one : Fixe
   -- all of it
   pub opened : (access : Access) (low high : ℕ) (o : Fixed Bool)
       → (o' : Fixed Bool)
-      × (triggerHeard (triggered mode) (bytesHeard chip defer (bytesIn access low high) (watching (counter access leftOpen leftOpen awaitsCount o) false one))
-      ≡ watching (counter access leftOpen (fixedAt (writtenIn access low high)) loading o') (not (triggered mode) && late) one)
+      × (triggerHeard (triggerStarts mode) (bytesHeard chip defer (bytesIn access low high) (watching (counter access leftOpen leftOpen awaitsCount o) false one))
+      ≡ watching (counter access leftOpen (fixedAt (writtenIn access low high)) loading o') (not (triggerStarts mode) && late) one)
   opened access low high o =
-      let t = triggered-by (triggered mode) refl access (writtenIn access low high) (outputThen access o) in
-      (t .0, ap (triggerHeard (triggered mode)) (bytes-written access low high o) ∙ t .1)
+      let t = triggered-by (triggerStarts mode) refl access (writtenIn access low high) (outputThen access o) in
+      (t .0, ap (triggerHeard (triggerStarts mode)) (bytes-written access low high o) ∙ t .1)

@@ -18,7 +18,7 @@ use Rattle.sheet.specs.Counter.{Fixed, leftOpen, fixedAt, loading, counting, Co
 use Rattle.sheet.specs.CounterTick.{pulse, reloads, countTo, rest}
 use Rattle.agreement.specs.Watching.{Watch, watching, neverLoads, watchTick, watchGate}
 use Rattle.waveform.specs.Pin.{pausedOutput}
-use Rattle.waveform.specs.Pins.{Pulse, gateAt, clock, pulsed, lastLevel, MayMove, Undisturbed, highClocks, lastCounted}
+use Rattle.waveform.specs.Pins.{Pulse, gateAt, clock, pulsed, lastLevel, Undisturbed, highClocks, lastCounted}
 use Rattle.waveform.proofs.Written.{counter}
 
 module _ (chip : Chip) (access : Access) (bcd : Bool) (first : Fixed ℕ) (w : ℕ) (one : Fixed Bool) (n : ℕ) where

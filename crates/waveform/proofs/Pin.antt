@@ -1,8 +1,8 @@
 -- From the port to the pin: what a channel shows after the opening, over all that its pins do. Assumes nothing.
 use Prim.Native.Nat.{ℕ, zero, suc, _+_, _<_, _≤_}
-use mathlib.Core.Bool.{Bool, true, false, not, cond, _&&_, _||_}
+use mathlib.Core.Bool.{Bool, true, false, not, cond, _&&_}
 use mathlib.Core.List.{List, [], _∷_, _++_}
-use mathlib.Core.Logic.{_⊎_, ⊎-elim}
+use mathlib.Core.Logic.{_⊎_}
 use mathlib.Core.Path.{_≡_, refl, sym, ap, _∙_, subst}
 use native.Mathlib.Omega.{arith}
 use lib.Dec.{eqb}
@@ -18,24 +18,24 @@ use Rattle.board.specs.declared.Board.{Board}
 use Rattle.board.specs.Board.{channelAt}
 use Rattle.board.specs.Outcome.{Value}
 use Rattle.step.specs.Operation.{Operation, WritePort}
-use Rattle.step.specs.Accepted.{IsAccepted, AllAccepted}
+use Rattle.step.specs.Accepted.{IsAccepted, AllAccepted, unlessRefused}
 use Rattle.step.specs.Step.{step, steps}
 use Rattle.step.proofs.Accepted.{by-reply}
 use Rattle.step.proofs.Kept.{settings-kept}
 use Rattle.sheet.specs.ControlByte.{Access, lowByte, highByte, lowThenHigh, Request, program, requestOf}
 use Rattle.sheet.specs.Gate.{fallEffect, riseEffect}
 use Rattle.sheet.specs.Output.{outputAfterModeSet}
-use Rattle.sheet.specs.Ticking.{Chip, held, downValue, highFrom, valueAfter, outputAfter, smallest}
+use Rattle.sheet.specs.Ticking.{Chip, held, downValue, valueAfter, outputAfter, smallest}
 use Rattle.sheet.specs.Counter.{Fixed, leftOpen, fixedAt, awaitsCount, loading, counting, programmed}
-use Rattle.sheet.specs.CounterTick.{numberWritten, legal, at}
+use Rattle.sheet.specs.CounterTick.{numberWritten, at}
 use Rattle.agreement.specs.Words.{sheetChip}
-use Rattle.agreement.specs.Watching.{Watch, unprogrammed, watching, oneNow, watchProgram, watchTick, watchGate, watchWrite, putsOff, ShowsIn}
+use Rattle.agreement.specs.Watching.{Watch, watching, oneNow, watchProgram, watchGate, watchWrite, putsOff, ShowsIn}
 use Rattle.agreement.proofs.Written.{legal-number}
 use Rattle.waveform.specs.Follows.{Starts}
-use Rattle.waveform.specs.Heard.{heardControl, catchesUp, heard, unlessRefused, hears, defersAfter, defersOver, watchOver, AllBytes}
-use Rattle.waveform.specs.Opened.{bytesIn, writtenIn, triggered, gateCall, byteCalls, triggerCalls, opening, afterOne, laterTicks, Opened, before, after, lateTicks}
+use Rattle.waveform.specs.Heard.{heardControl, catchesUp, heardOf, hears, defersAfter, defersOver, watchOver, OnlyBytes}
+use Rattle.waveform.specs.Opened.{bytesIn, writtenIn, triggerStarts, gateCall, byteCalls, triggerCalls, opening, afterOne, Opened, before, after, lateTicks}
 use Rattle.waveform.specs.Pin.{AtThePin, pausedOutput, PortToPin, GatePauses, TriggerRestarts, FallHolds}
-use Rattle.waveform.specs.Pins.{Pulse, gateAt, clock, clocks, pinsOver, pulsed, clocksIn, lastLevel, Undisturbed, highClocks, lastCounted}
+use Rattle.waveform.specs.Pins.{Pulse, gateAt, clocks, pinsOver, pulsed, clocksIn, lastLevel, Undisturbed, highClocks, lastCounted}
 use Rattle.waveform.proofs.Follows.{follows}
 use Rattle.waveform.proofs.Opening.{bytesHeard, triggerHeard, openingHeard, raised, same-one, starts, opened}
 use Rattle.waveform.proofs.Pauses.{paused, either-pauses, load-output, load-value, held-by}
@@ -54,13 +54,13 @@ steps-both : (b : Board) (os ps : List Operation) → steps b (os ++ ps) ≡ ste
 steps-both b [] ps = refl
 steps-both b (o ∷ os) ps = steps-both (step b o .board) os ps
 
-bytes-both : (os ps : List Operation) → AllBytes os → AllBytes ps → AllBytes (os ++ ps)
+bytes-both : (os ps : List Operation) → OnlyBytes os → OnlyBytes ps → OnlyBytes (os ++ ps)
 bytes-both [] ps small others = others
 bytes-both (o ∷ os) ps small others = (small .0, bytes-both os ps (small .1) others)
 
 -- an accepted call is heard
-taken : (i : ℕ) (b : Board) (d : Bool) (o : Operation) (w : Watch) → IsAccepted b o → hears i b d o w ≡ heard i b d o w
-taken i b d o w took = ap (λ (reply : Reply Value). unlessRefused reply w (heard i b d o w)) (took .1)
+taken : (i : ℕ) (b : Board) (d : Bool) (o : Operation) (w : Watch) → IsAccepted b o → hears i b d o w ≡ heardOf i b d o w
+taken i b d o w took = ap (λ (reply : Reply Value). unlessRefused reply w (heardOf i b d o w)) (took .1)
 
 both-accepted : (b : Board) (os ps : List Operation) → AllAccepted b (os ++ ps) → AllAccepted b os × AllAccepted (steps b os) ps
 both-accepted b [] ps took = (tt, took)
@@ -139,7 +139,7 @@ module _ (i : ℕ) (on : i < 3) (events : List ℕ) (place : ℕ) (d : Bool) whe
       let b₁ = step b first .board in
       let b₂ = step b₁ set .board in
       let bytes = byteCalls i events place (bytesIn access low high) in
-      let trigger = triggerCalls i events place (triggered mode) in
+      let trigger = triggerCalls i events place (triggerStarts mode) in
       let split = both-accepted b₂ bytes trigger (took .1 .1) in
       let raised-one = watchGate w true in
       let v = watchProgram raised-one access mode bcd in
@@ -147,17 +147,17 @@ module _ (i : ℕ) (on : i < 3) (events : List ℕ) (place : ℕ) (d : Bool) whe
       ∙ call-first b₁ set (bytes ++ trigger) raised-one v refl (control-heard b₁ control access mode bcd raised-one is (took .1 .0))
       ∙ over-both i b₂ bytes trigger d v
       ∙ ap (λ (e : Bool). watchOver i (steps b₂ bytes) trigger e (watchOver i b₂ bytes d v)) (bytes-defer b₂ (bytesIn access low high))
-      ∙ over-trigger (steps b₂ bytes) (triggered mode) (watchOver i b₂ bytes d v) (split .1)
-      ∙ ap (triggerHeard (triggered mode))
+      ∙ over-trigger (steps b₂ bytes) (triggerStarts mode) (watchOver i b₂ bytes d v) (split .1)
+      ∙ ap (triggerHeard (triggerStarts mode))
       (over-bytes b₂ (bytesIn access low high) v (split .0)
       ∙ ap (λ (model : PitType). bytesHeard (sheetChip model) d (bytesIn access low high) v) (settings-kept b₁ set .0 ∙ settings-kept b first .0))
 
-  small-bytes : (access : Access) (low high : ℕ) → low < 256 → high < 256 → AllBytes (byteCalls i events place (bytesIn access low high))
+  small-bytes : (access : Access) (low high : ℕ) → low < 256 → high < 256 → OnlyBytes (byteCalls i events place (bytesIn access low high))
   small-bytes lowByte low high l h = (l, tt)
   small-bytes highByte low high l h = (h, tt)
   small-bytes lowThenHigh low high l h = (l, (h, tt))
 
-  small-trigger : (t : Bool) → AllBytes (triggerCalls i events place t)
+  small-trigger : (t : Bool) → OnlyBytes (triggerCalls i events place t)
   small-trigger true = (tt, (tt, tt))
   small-trigger false = tt
 
@@ -191,7 +191,7 @@ always-wanted false = refl
 
 module _ (b : Board) (i : ℕ) (defers : Bool) (start : Watch) (from : Starts b i defers start) (on : i < 3) (m : ChannelMode) (bcd : Bool) (n : ℕ)
     (o : Opened b i defers start m bcd n)
-    (later : List Operation) (others : AllBytes later) (ps : List Pulse) (pins : pinsOver i (after b i defers start m bcd n o) later ≡ fixedAt ps) where
+    (later : List Operation) (others : OnlyBytes later) (ps : List Pulse) (pins : pinsOver i (after b i defers start m bcd n o) later ≡ fixedAt ps) where
   abbrev mode : ℕ
   mode = modeNumber m
 
@@ -226,7 +226,7 @@ module _ (b : Board) (i : ℕ) (defers : Bool) (start : Watch) (from : Starts b 
   least = legal-number mode (numberWritten bcd count) n (o .number) .1
 
   abbrev late : Bool
-  late = not (triggered mode) && putsOff deferring mode awaitsCount one
+  late = not (triggerStarts mode) && putsOff deferring mode awaitsCount one
 
   abbrev At : Stage → Bool → Watch → Type 0
   At = IsAt chip m bcd one (o .access) count n (o .number) least
@@ -239,7 +239,7 @@ module _ (b : Board) (i : ℕ) (defers : Bool) (start : Watch) (from : Starts b 
         (
           leftOpen,
           over-opening i on (o .events) (o .place) deferring now (o .control) (o .access) mode bcd (o .low) (o .high) known (o .names) (o .took)
-              ∙ ap (λ (w : Watch). triggerHeard (triggered mode) (bytesHeard (sheetChip (now .model)) deferring (bytesIn (o .access) (o .low) (o .high)) w))
+              ∙ ap (λ (w : Watch). triggerHeard (triggerStarts mode) (bytesHeard (sheetChip (now .model)) deferring (bytesIn (o .access) (o .low) (o .high)) w))
               (set-high known (o .access) mode bcd)
               ∙ t .1,
         ),
@@ -248,16 +248,16 @@ module _ (b : Board) (i : ℕ) (defers : Bool) (start : Watch) (from : Starts b 
   abbrev opened-watch : Watch
   opened-watch = watchOver i now calls deferring known
 
-  all-small : AllBytes (o .earlier ++ (calls ++ later))
+  all-small : OnlyBytes (o .earlier ++ (calls ++ later))
   all-small =
       bytes-both (o .earlier) (calls ++ later) (o .earlier-bytes)
       (bytes-both calls later (
         tt,
         (
           o .control-byte,
-          bytes-both (byteCalls i (o .events) (o .place) (bytesIn (o .access) (o .low) (o .high))) (triggerCalls i (o .events) (o .place) (triggered mode))
+          bytes-both (byteCalls i (o .events) (o .place) (bytesIn (o .access) (o .low) (o .high))) (triggerCalls i (o .events) (o .place) (triggerStarts mode))
               (small-bytes i on (o .events) (o .place) deferring (o .access) (o .low) (o .high) (o .low-byte) (o .high-byte))
-              (small-trigger i on (o .events) (o .place) deferring (triggered mode)),
+              (small-trigger i on (o .events) (o .place) deferring (triggerStarts mode)),
         ),
       )
       others)

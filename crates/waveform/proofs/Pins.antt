@@ -1,8 +1,8 @@
 -- Calls of which a channel hears nothing but its pins, over a list: the sheets' counter makes of them what it makes of the pulses. Assumes nothing.
 use Prim.Native.Nat.{ℕ, zero, suc, _+_}
-use mathlib.Core.Bool.{Bool, true, false, true≢false, false≢true, cond}
+use mathlib.Core.Bool.{Bool, true, false, true≢false, cond}
 use mathlib.Core.List.{List, [], _∷_, _++_}
-use mathlib.Core.Path.{_≡_, refl, sym, ap, _∙_, subst}
+use mathlib.Core.Path.{_≡_, refl, sym, ap, _∙_}
 use lib.Dec.{eqb}
 use Rattle.numbers.specs.Times.{times}
 use Rattle.refusal.specs.Reply.{Reply}
@@ -11,7 +11,8 @@ use Rattle.board.specs.declared.Board.{Board}
 use Rattle.board.specs.Outcome.{Value}
 use Rattle.step.specs.Operation.{Operation, WritePort, ReadPort, SetChannelGate, Counts, LoadCycle, CatchUp, Run, Reset, GetOutputState, GetChannelCount, DoesChannelRetrigger, IsDirty, GetTimerAccum, WorkOff}
 use Rattle.step.specs.Owed.{madeBy}
-use Rattle.step.specs.Step.{step, steps}
+use Rattle.step.specs.Accepted.{unlessRefused}
+use Rattle.step.specs.Step.{step}
 use Rattle.step.proofs.Accepted.{by-reply}
 use Rattle.step.proofs.Kept.{settings-kept}
 use Rattle.sheet.specs.ControlByte.{Request, noCounter, latchCounter, program, requestOf}
@@ -19,7 +20,7 @@ use Rattle.sheet.specs.Ticking.{Chip}
 use Rattle.sheet.specs.Counter.{Fixed, leftOpen, fixedAt}
 use Rattle.agreement.specs.Words.{sheetChip}
 use Rattle.agreement.specs.Watching.{Watch, watchProgram, watchTick, watchGate, watchWrite, watchCounts, watchCycle}
-use Rattle.waveform.specs.Heard.{heardControl, heard, unlessRefused, hears, defersAfter, watchOver}
+use Rattle.waveform.specs.Heard.{heardControl, heardOf, hears, defersAfter, watchOver}
 use Rattle.waveform.specs.Pins.{Pulse, gateAt, clock, clocks, noPulse, controlPins, pinsOf, joined, pinsOver, pulsed}
 use Rattle.waveform.proofs.Stages.{times-first}
 
@@ -48,7 +49,7 @@ module _ (i : ℕ) (b : Board) (defers : Bool) (w : Watch) (ps : List Pulse) whe
   abbrev chip : Chip
   chip = sheetChip (b .model)
 
-  -- nothing is heard, and nothing done to the pins
+  -- nothing is heardOf, and nothing done to the pins
   quiet : noPulse ≡ fixedAt ps → w ≡ pulsed chip w ps
   quiet is = ap (λ (x : Fixed (List Pulse)). pulsed chip w (listOf x)) is
 
@@ -71,7 +72,7 @@ module _ (i : ℕ) (b : Board) (defers : Bool) (w : Watch) (ps : List Pulse) whe
   gate-pins true level is = ap (λ (x : Fixed (List Pulse)). pulsed chip w (listOf x)) is
   gate-pins false level is = quiet is
 
-  heard-pins : (o : Operation) → pinsOf i b o ≡ fixedAt ps → heard i b defers o w ≡ pulsed chip w ps
+  heard-pins : (o : Operation) → pinsOf i b o ≡ fixedAt ps → heardOf i b defers o w ≡ pulsed chip w ps
   heard-pins (WritePort port byte events place) is =
       byte-pins (eqb port (0x40 + i)) (eqb port 0x43) (watchWrite chip defers w byte) (requestOf byte) is
   heard-pins (ReadPort port) is = quiet is
@@ -91,7 +92,7 @@ module _ (i : ℕ) (b : Board) (defers : Bool) (w : Watch) (ps : List Pulse) whe
 
   hears-pins : (o : Operation) → unlessRefused (step b o .reply) noPulse (pinsOf i b o) ≡ fixedAt ps → hears i b defers o w ≡ pulsed chip w ps
   hears-pins o =
-      by-reply b o (λ (reply : Reply Value). unlessRefused reply noPulse (pinsOf i b o) ≡ fixedAt ps → unlessRefused reply w (heard i b defers o w) ≡ pulsed chip w ps)
+      by-reply b o (λ (reply : Reply Value). unlessRefused reply noPulse (pinsOf i b o) ≡ fixedAt ps → unlessRefused reply w (heardOf i b defers o w) ≡ pulsed chip w ps)
       (λ number e is. quiet is)
       (λ value e is. heard-pins o is)
 

@@ -1,13 +1,12 @@
 -- The sheets' counter itself: a tick takes a counter that stands at tick j of n to the next, and the closed forms of the sheets repeat as modes 2 and 3 do. Assumes
 -- nothing.
-use Prim.Native.Nat.{ℕ, zero, suc, _-_, _%_, _<_, _≤_}
+use Prim.Native.Nat.{ℕ, suc, _-_, _%_, _<_, _≤_}
 use mathlib.Core.Bool.{Bool, true, false, cond, _||_}
 use mathlib.Core.Path.{_≡_, refl, sym, ap, _∙_}
 use native.Mathlib.Nat.{zero-mod, suc-mod, mod-lt, mod-eq-of-lt, mod-self}
 use native.Mathlib.Omega.{arith}
 use lib.Dec.{eqb}
 use borrow.Author.Tests.{eqb-true, eqb-false}
-use Rattle.numbers.specs.Times.{times}
 use Rattle.channel.specs.declared.ChannelMode.{ChannelMode}
 use Rattle.channel.specs.Modes.{modeNumber}
 use Rattle.channel.specs.Queries.{doesRetrigger}

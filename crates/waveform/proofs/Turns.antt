@@ -61,7 +61,7 @@ use Rattle.agreement.proofs.TrackTick.{tick-tracks}
 use Rattle.agreement.proofs.TrackGate.{gate-tracks}
 use Rattle.agreement.proofs.TrackBytes.{write-tracks}
 use Rattle.agreement.proofs.TrackOthers.{program-tracks, reset-tracks, counts-track, cycle-tracks}
-use Rattle.waveform.specs.Heard.{heardControl, heardByte, heard, IsByte}
+use Rattle.waveform.specs.Heard.{heardControl, heardByte, heardOf, IsByte}
 
 -- an accepted call was not refused
 not-owed : (b : Board) (events : List ℕ) (outcome : Outcome) (value : Value) → unlessOwed b events outcome .reply ≡ accepted value
@@ -84,10 +84,6 @@ data-back port false false false l d c P counter command other = other
 by-port : (port : ℕ) (P : Port → Type 0) → ((n : ℕ) → port ≡ 0x40 + n → n < 3 → P (Data n)) → (port ≡ 0x43 → P CommandPort) → P Unknown → P (portOf port)
 unfolding portOf
 by-port port P counter command other = data-back port (ltb port 0x40) (ltb port 0x43) (eqb port 0x43) refl refl refl P counter command other
-
-command-port : portOf 0x43 ≡ CommandPort
-unfolding portOf
-command-port = refl
 
 module _ (b : Board) (three : length (b .channels) ≡ 3) (i : ℕ) (on : i < 3) (w : Watch) (now : Tracks (b .model) w (coreOf (channelAt b i))) where
   -- the channel after a call, in step with a counter
@@ -288,7 +284,7 @@ module _ (b : Board) (three : length (b .channels) ≡ 3) (i : ℕ) (on : i < 3)
       (ticks-track (madeBy (workOff b stated events place .reply)))
 
   -- every accepted call
-  pub turn : (o : Operation) → IsByte o → (value : Value) → step b o .reply ≡ accepted value → Then (heard i b (b .defer) o w) (step b o .board)
+  pub turn : (o : Operation) → IsByte o → (value : Value) → step b o .reply ≡ accepted value → Then (heardOf i b (b .defer) o w) (step b o .board)
   unfolding writePort readPort
   turn (WritePort port byte events place) small value took = port-turn port byte events place value small took
   turn (ReadPort port) small value took = read-turn (portOf port)

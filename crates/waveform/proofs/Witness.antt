@@ -1,10 +1,10 @@
 -- That the premises of the theorems can be met, where they ask most: mode 4 on a board that defers, whose gate falls and rises after the load; and mode 5, which
 -- strobes after its trigger whatever mode was set before. Assumes nothing.
 use Prim.Native.Nat.{ℕ}
-use mathlib.Core.Bool.{Bool, true, false}
+use mathlib.Core.Bool.{true, false}
 use mathlib.Core.List.{List, [], _∷_}
 use mathlib.Core.Logic.{inr}
-use mathlib.Core.Path.{_≡_, refl}
+use mathlib.Core.Path.{refl}
 use native.Mathlib.Omega.{arith}
 use Rattle.channel.specs.declared.ChannelMode.the-variants.{SoftwareTriggeredStrobe, HardwareTriggeredStrobe}
 use Rattle.channel.specs.declared.PitType.the-variants.{Model8253}
@@ -22,7 +22,6 @@ use Rattle.tick.specs.Tick.{agedBy, idle, deferred, withArmed, loaded, loadAt, 
 use Rattle.time.specs.Time.{ticksFromTime}
 use Rattle.event.specs.Event.{placeEvent}
 use Rattle.board.specs.declared.Board.{Board}
-use Rattle.board.specs.Board.{channelAt}
 use Rattle.board.specs.Making.{fresh}
 use Rattle.clock.specs.Clock.{catchUp, run}
 use Rattle.ports.specs.Port.{portOf}

@@ -13,7 +13,7 @@ use Rattle.step.specs.Operation.{Operation}
 use Rattle.step.specs.Step.{steps}
 use Rattle.sheet.specs.Counter.{leftOpen, fixedAt}
 use Rattle.agreement.specs.Watching.{Watch, unprogrammed, ShowsIn}
-use Rattle.waveform.specs.Heard.{watchOver, AllBytes}
+use Rattle.waveform.specs.Heard.{watchOver, OnlyBytes}
 
 -- what is known before the calls, whether the board defers and of the channel: of any board with three channels the level at the gate; of a new board that no
 -- catch-up was made, that the gate is high and that no mode 1 was set
@@ -28,5 +28,5 @@ Starts b i defers w = AnyBoard b i defers w ⊎ NewBoard b defers w
 
 abbrev pub Follows : Type 0
 Follows =
-    (b : Board) (i : ℕ) (defers : Bool) (w : Watch) → Starts b i defers w → i < 3 → (os : List Operation) → AllBytes os
+    (b : Board) (i : ℕ) (defers : Bool) (w : Watch) → Starts b i defers w → i < 3 → (os : List Operation) → OnlyBytes os
     → ShowsIn (watchOver i b os defers w) (channelAt (steps b os) i)

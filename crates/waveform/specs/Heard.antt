@@ -5,10 +5,9 @@ use mathlib.Core.Bool.{Bool, true, false, cond}
 use mathlib.Core.List.{List, [], _∷_}
 use lib.Dec.{eqb}
 use Rattle.numbers.specs.Times.{times}
-use Rattle.refusal.specs.Reply.{Reply, refused, accepted}
 use Rattle.board.specs.declared.Board.{Board}
-use Rattle.board.specs.Outcome.{Value}
 use Rattle.step.specs.Operation.{Operation, WritePort, ReadPort, SetChannelGate, Counts, LoadCycle, CatchUp, Run, Reset, GetOutputState, GetChannelCount, DoesChannelRetrigger, IsDirty, GetTimerAccum, WorkOff}
+use Rattle.step.specs.Accepted.{unlessRefused}
 use Rattle.step.specs.Step.{step}
 use Rattle.step.specs.Owed.{madeBy}
 use Rattle.sheet.specs.ControlByte.{Request, noCounter, latchCounter, program, requestOf}
@@ -45,29 +44,25 @@ catchesUp GetTimerAccum = false
 catchesUp (WorkOff stated events place) = false
 
 -- what channel i of a board hears of an accepted call, where the board defers or does not
-abbrev pub heard : ℕ → Board → Bool → Operation → Watch → Watch
-heard i b defers (WritePort port byte events place) w = heardByte i (sheetChip (b .model)) defers port byte w
-heard i b defers (ReadPort port) w = w
-heard i b defers (SetChannelGate channel level events place) w = cond (eqb channel i) (watchGate w level) w
-heard i b defers (Counts channel number) w = cond (eqb channel i) (watchCounts w number) w
-heard i b defers (LoadCycle channel) w = cond (eqb channel i) (watchCycle w) w
-heard i b defers (CatchUp given) w = w
-heard i b defers (Run given) w = w
-heard i b defers Reset w = watchReset w
-heard i b defers (GetOutputState channel) w = w
-heard i b defers (GetChannelCount channel) w = w
-heard i b defers (DoesChannelRetrigger channel) w = w
-heard i b defers (IsDirty channel) w = w
-heard i b defers GetTimerAccum w = w
-heard i b defers (WorkOff stated events place) w = times (madeBy (step b (WorkOff stated events place) .reply)) (watchTick (sheetChip (b .model))) w
+abbrev pub heardOf : ℕ → Board → Bool → Operation → Watch → Watch
+heardOf i b defers (WritePort port byte events place) w = heardByte i (sheetChip (b .model)) defers port byte w
+heardOf i b defers (ReadPort port) w = w
+heardOf i b defers (SetChannelGate channel level events place) w = cond (eqb channel i) (watchGate w level) w
+heardOf i b defers (Counts channel number) w = cond (eqb channel i) (watchCounts w number) w
+heardOf i b defers (LoadCycle channel) w = cond (eqb channel i) (watchCycle w) w
+heardOf i b defers (CatchUp given) w = w
+heardOf i b defers (Run given) w = w
+heardOf i b defers Reset w = watchReset w
+heardOf i b defers (GetOutputState channel) w = w
+heardOf i b defers (GetChannelCount channel) w = w
+heardOf i b defers (DoesChannelRetrigger channel) w = w
+heardOf i b defers (IsDirty channel) w = w
+heardOf i b defers GetTimerAccum w = w
+heardOf i b defers (WorkOff stated events place) w = times (madeBy (step b (WorkOff stated events place) .reply)) (watchTick (sheetChip (b .model))) w
 
 -- a refused call is not heard
-abbrev pub unlessRefused : {A : Type 0} → Reply Value → A → A → A
-unlessRefused (refused number) old new = old
-unlessRefused (accepted value) old new = new
-
 abbrev pub hears : ℕ → Board → Bool → Operation → Watch → Watch
-hears i b defers o w = unlessRefused (step b o .reply) w (heard i b defers o w)
+hears i b defers o w = unlessRefused (step b o .reply) w (heardOf i b defers o w)
 
 abbrev pub defersAfter : Board → Operation → Bool → Bool
 defersAfter b o defers = unlessRefused (step b o .reply) defers (cond (catchesUp o) true defers)
@@ -98,6 +93,6 @@ IsByte (IsDirty channel) = Unit
 IsByte GetTimerAccum = Unit
 IsByte (WorkOff stated events place) = Unit
 
-abbrev pub AllBytes : List Operation → Type 0
-AllBytes [] = Unit
-AllBytes (o ∷ os) = IsByte o × AllBytes os
+abbrev pub OnlyBytes : List Operation → Type 0
+OnlyBytes [] = Unit
+OnlyBytes (o ∷ os) = IsByte o × OnlyBytes os

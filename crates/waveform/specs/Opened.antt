@@ -16,7 +16,7 @@ use Rattle.sheet.specs.Loading.{countOf}
 use Rattle.sheet.specs.Counter.{Fixed, fixedAt, awaitsCount}
 use Rattle.sheet.specs.CounterTick.{numberWritten, legal}
 use Rattle.agreement.specs.Watching.{Watch, unprogrammed, watching, oneNow, unknown, putsOff}
-use Rattle.waveform.specs.Heard.{defersOver, watchOver, AllBytes}
+use Rattle.waveform.specs.Heard.{defersOver, watchOver, OnlyBytes}
 
 -- C1, W1: the bytes of a count, in their order, and the count that they write
 abbrev pub bytesIn : Access → ℕ → ℕ → List ℕ
@@ -30,8 +30,8 @@ writtenIn highByte low high = countOf 0 high
 writtenIn lowThenHigh low high = countOf low high
 
 -- G1, G5: the modes that a trigger starts
-abbrev pub triggered : ℕ → Bool
-triggered mode = not (fallEffect mode .stops)
+abbrev pub triggerStarts : ℕ → Bool
+triggerStarts mode = not (fallEffect mode .stops)
 
 -- the calls; each lends event bytes and a place in them
 module _ (i : ℕ) (events : List ℕ) (place : ℕ) where
@@ -48,7 +48,7 @@ module _ (i : ℕ) (events : List ℕ) (place : ℕ) where
 
   abbrev pub opening : ℕ → Access → ℕ → ℕ → ℕ → List Operation
   opening control access mode low high =
-      gateCall true ∷ WritePort 0x43 control events place ∷ byteCalls (bytesIn access low high) ++ triggerCalls (triggered mode)
+      gateCall true ∷ WritePort 0x43 control events place ∷ byteCalls (bytesIn access low high) ++ triggerCalls (triggerStarts mode)
 
 -- whether mode 1 was the last of modes 0 to 3 that the calls so far set on the channel, where that is known
 abbrev pub afterOne : Watch → Fixed Bool
@@ -57,7 +57,7 @@ afterOne (watching k late one) = one
 
 -- S1: the tick that loads is the first, or the second where the board defers
 abbrev pub laterTicks : Bool → ℕ → Fixed Bool → ℕ
-laterTicks defer mode one = cond (not (triggered mode) && putsOff defer mode awaitsCount one) 1 0
+laterTicks defer mode one = cond (not (triggerStarts mode) && putsOff defer mode awaitsCount one) 1 0
 
 -- which of the two it is depends in mode 4 on the last of modes 0 to 3 (B4); it is open where none of them has been set and the board defers
 abbrev pub tickOpen : Bool → ℕ → Fixed Bool → Bool
@@ -67,7 +67,7 @@ tickOpen defer mode one = eqb mode 4 && (defer && unknown one)
 -- count is in range
 pub record Opened (b : Board) (i : ℕ) (defers : Bool) (start : Watch) (m : ChannelMode) (bcd : Bool) (n : ℕ) : Type 0 where
   pub earlier : List Operation
-  pub earlier-bytes : AllBytes earlier
+  pub earlier-bytes : OnlyBytes earlier
   pub control : ℕ
   pub control-byte : control < 256
   pub access : Access

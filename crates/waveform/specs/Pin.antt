@@ -19,7 +19,7 @@ use Rattle.sheet.specs.Counter.{fixedAt}
 use Rattle.agreement.specs.Words.{sheetChip}
 use Rattle.agreement.specs.Watching.{Watch, oneNow}
 use Rattle.waveform.specs.Follows.{Starts, NewBoard}
-use Rattle.waveform.specs.Heard.{defersOver, watchOver, AllBytes}
+use Rattle.waveform.specs.Heard.{defersOver, watchOver, OnlyBytes}
 use Rattle.waveform.specs.Opened.{Opened, after, lateTicks, tickOpen, afterOne}
 use Rattle.waveform.specs.Pins.{Pulse, gateAt, clocks, pinsOver, clocksIn, lastLevel, Undisturbed, highClocks, lastCounted}
 
@@ -33,7 +33,7 @@ abbrev pub ForEvery : ((b : Board) (i : ℕ) (m : ChannelMode) (bcd : Bool) (n l
 ForEvery Says =
     (b : Board) (i : ℕ) (defers : Bool) (start : Watch) → Starts b i defers start → i < 3
     → (m : ChannelMode) (bcd : Bool) (n : ℕ) (o : Opened b i defers start m bcd n)
-    → (later : List Operation) → AllBytes later → (ps : List Pulse) → pinsOver i (after b i defers start m bcd n o) later ≡ fixedAt ps
+    → (later : List Operation) → OnlyBytes later → (ps : List Pulse) → pinsOver i (after b i defers start m bcd n o) later ≡ fixedAt ps
     → Says b i m bcd n (lateTicks b i defers start m bcd n o) (steps (after b i defers start m bcd n o) later) ps
 
 -- j ticks after the one that loads, the gate being as the mode wants it: high in modes 0, 2, 3 and 4, in modes 1 and 5 at any level that does not rise

@@ -7,12 +7,12 @@ use lib.Dec.{eqb}
 use Rattle.board.specs.declared.Board.{Board}
 use Rattle.step.specs.Operation.{Operation, WritePort, ReadPort, SetChannelGate, Counts, LoadCycle, CatchUp, Run, Reset, GetOutputState, GetChannelCount, DoesChannelRetrigger, IsDirty, GetTimerAccum, WorkOff}
 use Rattle.step.specs.Owed.{madeBy}
+use Rattle.step.specs.Accepted.{unlessRefused}
 use Rattle.step.specs.Step.{step}
 use Rattle.sheet.specs.ControlByte.{Request, noCounter, latchCounter, program, requestOf}
 use Rattle.sheet.specs.Ticking.{Chip}
 use Rattle.sheet.specs.Counter.{Fixed, leftOpen, fixedAt}
 use Rattle.agreement.specs.Watching.{Watch, watchTick, watchGate}
-use Rattle.waveform.specs.Heard.{unlessRefused}
 
 pub data Pulse : Type 0 where
   gateAt : Bool → Pulse
