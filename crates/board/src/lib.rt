@@ -5,6 +5,7 @@ pub mod queries;
 use channel::Channel;
 use channel::PitType;
 use channel::queries::ChannelCount;
+use latch::Label;
 use refusal::Refusal;
 use time::SystemTicks;
 use time::TimerTicks;
@@ -27,9 +28,10 @@ pub struct Board {
     pub owed: TimerTicks,
 }
 
-// What a port read says: the byte.
+// What a port read says: the byte, and of the byte which half it is and whether it was held.
 pub struct PortRead {
     pub byte: u8,
+    pub label: Label,
 }
 
 // What working ticks off comes to: how many were made, and the new place in the event bytes.

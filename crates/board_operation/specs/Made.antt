@@ -4,7 +4,9 @@ use Prim.Native.Nat.{ℕ}
 use mathlib.Core.List.{List}
 use Rattle.numbers.specs.Flags.{flagNumber}
 use Rattle.refusal.specs.Reply.{Reply, refused, accepted}
+use Rattle.latch.specs.Label.{halfNumber}
 use Rattle.board.specs.declared.Board.{Board}
+use Rattle.board.specs.declared.PortRead.{PortRead}
 use Rattle.board.specs.Outcome.{Outcome, Value, done, newPlace, byte, ticks, outputState, channelCount, retriggers, dirtyMarks, timerAccum, worked}
 use Rattle.step.specs.Operation as call
 use Rattle.step.specs.Step.{step}
@@ -49,11 +51,15 @@ eventsAfter (WorkOff stated) events stepped = stepped
 abbrev pub numbered : ℕ → ℕ → ℕ → ℕ → Numbers
 numbered refusal a b c = record { refusal = refusal; first = a; second = b; third = c }
 
+-- of a read: "the byte read", "its half: 0 neither, 1 low, 2 high", "1 if it was held"
+abbrev pub readNumbers : PortRead → Numbers
+readNumbers r = numbered 0 (r .byte) (halfNumber (r .label .half)) (flagNumber (r .label .held))
+
 -- the table of answers; "What an operation does not answer is 0."
 abbrev pub valueNumbers : Value → Numbers
 valueNumbers done = numbered 0 0 0 0
 valueNumbers (newPlace p) = numbered 0 p 0 0
-valueNumbers (byte r) = numbered 0 (r .byte) 0 0
+valueNumbers (byte r) = readNumbers r
 valueNumbers (ticks n) = numbered 0 n 0 0
 valueNumbers (outputState level) = numbered 0 (flagNumber level) 0 0
 valueNumbers (channelCount register element counting) = numbered 0 register element (flagNumber counting)

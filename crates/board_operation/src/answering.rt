@@ -1,9 +1,10 @@
 // What an operation on a board answers, in numbers.
 use board::Answer;
+use board::PortRead;
 ghost use mathlib.Core.Path.{_≡_};
 ghost use Rattle.numbers.specs.Flags.{flagNumber};
 ghost use Rattle.board.specs.Answer.{replyOf};
-ghost use Rattle.board_operation.specs.Made.{numbersOf, numbered};
+ghost use Rattle.board_operation.specs.Made.{readNumbers, numbersOf, numbered};
 
 // The refusal's number, or 0 and what the operation answers; 0 where it does not.
 pub struct Numbers {
@@ -30,6 +31,19 @@ fn as_number(flag: bool) -> u32
     numbers::flag_byte(flag) as u32
 }
 
+// The byte, which half it is, and whether it was held.
+fn read_numbers(read: PortRead) -> Numbers
+    ensures { λ r. ⌜ r ≡ readNumbers read ⌝ }
+{
+    let label = read.label;
+    let half = label.half;
+    saying(
+        read.byte as u64,
+        half.number() as u32,
+        as_number(label.held),
+    )
+}
+
 pub fn numbers_of(answer: Answer) -> Numbers
     ensures { λ r. ⌜ r ≡ numbersOf (replyOf answer) ⌝ }
 {
@@ -42,7 +56,7 @@ pub fn numbers_of(answer: Answer) -> Numbers
         },
         Answer::Done => saying(0, 0, 0),
         Answer::Place(at) => saying(at as u64, 0, 0),
-        Answer::Byte(read) => saying(read.byte as u64, 0, 0),
+        Answer::Byte(read) => read_numbers(read),
         Answer::Ticks(ticks) => saying(ticks.0 as u64, 0, 0),
         Answer::OutputState(level) => saying(as_number(level) as u64, 0, 0),
         Answer::Count(count) => saying(

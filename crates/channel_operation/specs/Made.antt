@@ -11,6 +11,7 @@ use Rattle.control.specs.Control.{commandOf}
 use Rattle.count.specs.Count.{count}
 use Rattle.latch.specs.Latching.{latchCount}
 use Rattle.latch.specs.Reading.{readByte}
+use Rattle.latch.specs.Label.{labelOf, halfNumber}
 use Rattle.load.specs.Write.{writeByte}
 use Rattle.load.specs.Cycle.{loadCycle}
 use Rattle.gate.specs.Gate.{setGate}
@@ -34,7 +35,7 @@ commanded c (SetMode n w) model = answered (setMode c w model) n 0 0
 
 unfoldable pub operate : Channel → Operation → Made
 operate c (WriteByte byte defer) = silent (writeByte c byte defer)
-operate c ReadByte = answered (readByte c .channel) (readByte c .byte) 0 0
+operate c ReadByte = answered (readByte c .channel) (readByte c .byte) (halfNumber (labelOf c .half)) (flagNumber (labelOf c .held))
 operate c (SetGate level) = silent (setGate c level)
 operate c Count = silent (count c)
 operate c LoadCycle = silent (loadCycle c)

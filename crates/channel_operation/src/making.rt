@@ -43,7 +43,14 @@ fn read(c: Channel) -> Made
 {
     let got = latch::read_byte(c);
     let next = got.channel;
-    answered(next, got.byte as u16, 0, 0)
+    let label = latch::label_of(c);
+    let half = label.half;
+    answered(
+        next,
+        got.byte as u16,
+        half.number() as u16,
+        as_number(label.held),
+    )
 }
 
 fn channel_count(c: Channel) -> Made

@@ -1,2 +1,3 @@
 pub mod Latching
 pub mod Reading
+pub mod Label

@@ -1,7 +1,12 @@
-// Latching a count, and reading it byte by byte.
+// Latching a count, reading it byte by byte, and what a read says of its byte.
+mod label;
 mod latching;
 mod reading;
 
+pub use label::Label;
+pub use label::WhichHalf;
+pub use label::command_label;
+pub use label::label_of;
 pub use latching::latch_count;
 pub use reading::ByteRead;
 pub use reading::Half;

@@ -1,13 +1,16 @@
 -- Document 01, "Recorded traces": the lines that the replay program prints. "A read byte prints as two upper-case hex digits, all other numbers in
--- decimal."
+-- decimal." Document 02's L3 adds two words to the read line.
 use Prim.Native.Nat.{ℕ, _+_}
-use mathlib.Core.Bool.{cond}
+use mathlib.Core.Bool.{Bool, true, false, cond}
 use mathlib.Core.List.{List, [], _++_}
 use lib.Dec.{eqb, ltb}
 use lib.ListN.{getD}
 use Rattle.refusal.specs.Reply.{Reply, refused, accepted}
 use Rattle.channel.specs.declared.PitType.{PitType}
 use Rattle.channel.specs.declared.PitType.the-variants.{Model8253, Model8254}
+use Rattle.latch.specs.declared.label.WhichHalf.{WhichHalf}
+use Rattle.latch.specs.declared.label.WhichHalf.the-variants.{Low, High, Neither}
+use Rattle.board.specs.declared.PortRead.{PortRead}
 use Rattle.board.specs.Outcome.{Value, done, newPlace, byte, ticks, outputState, channelCount, retriggers, dirtyMarks, timerAccum, worked}
 use Rattle.trace.specs.Judgement.{Faulted}
 use Rattle.text.specs.Ascii.{ascii}
@@ -30,9 +33,20 @@ headLine model divisor = ascii "pit " ++ modelName model ++ ascii " divisor " ++
 abbrev pub refusedText : ℕ → List ℕ
 refusedText number = ascii "refused " ++ decimal number
 
--- "`read`": the byte in hex
-abbrev pub readText : ℕ → List ℕ
-readText x = ascii "read " ++ hex x
+-- 02, L3: "`7 read 03 low held` and `8 read 00 high held`", "and the command port prints `read 00 none live`": the half ..
+abbrev pub halfText : WhichHalf → List ℕ
+halfText Low = ascii " low"
+halfText High = ascii " high"
+halfText Neither = ascii " none"
+
+-- .. and held; "not latched is `live`"
+abbrev pub heldText : Bool → List ℕ
+heldText true = ascii " held"
+heldText false = ascii " live"
+
+-- "`read`": the byte in hex, and the two words
+abbrev pub readText : PortRead → List ℕ
+readText r = ascii "read " ++ hex (r .byte) ++ halfText (r .label .half) ++ heldText (r .label .held)
 
 -- "`ticks` and `left`": the timer ticks yielded, and the remainder that is kept
 abbrev pub ticksText : ℕ → ℕ → List ℕ
@@ -60,7 +74,7 @@ okText = ascii "ok"
 -- "its index, then `refused N`; or `read`, `ticks` and `left`, `out` with an event's two bytes, else `ok`". The events were lent "at place 0", so there is
 -- one where the new place is not 0; "`made N`, then `out` and two numbers for each event" (02, L1)
 abbrev pub valueText : Value → List ℕ → ℕ → List ℕ
-valueText (byte r) events left = readText (r .byte)
+valueText (byte r) events left = readText r
 valueText (ticks number) events left = ticksText number left
 valueText (newPlace place) events left = cond (eqb place 0) okText (outText events)
 valueText (worked made place) events left = madeText made place events

@@ -2,7 +2,9 @@
 use crate::LINE_ROOM;
 use crate::Line;
 use board::Answer;
+use board::PortRead;
 use board::Worked;
+use latch::WhichHalf;
 use time::SystemTicks;
 use time::TimerTicks;
 ghost use mathlib.Core.Path.{_≡_};
@@ -12,7 +14,7 @@ ghost use Rattle.board.specs.Answer.{replyOf};
 ghost use Rattle.text.specs.Put.{put, answered};
 ghost use Rattle.line.specs.Line.{lineOf, lineRoom};
 ghost use Rattle.line.specs.Inner.{answerRoom};
-ghost use Rattle.line.specs.Lines.{refusedText, readText, ticksText, outText, eventText, madeText, okText, answerText, operationLine};
+ghost use Rattle.line.specs.Lines.{refusedText, halfText, heldText, readText, ticksText, outText, eventText, madeText, okText, answerText, operationLine};
 
 fn put_refused(out: &mut [u8], place: usize, number: u8) -> usize
     requires { ⌜ place + answerRoom ≤ length (now out) ⌝ }
@@ -22,12 +24,35 @@ fn put_refused(out: &mut [u8], place: usize, number: u8) -> usize
     text::put_decimal(out, next, number as u64)
 }
 
-fn put_read(out: &mut [u8], place: usize, byte: u8) -> usize
-    requires { ⌜ place + answerRoom ≤ length (now out) ⌝ }
-    ensures { λ r. ⌜ (answered r (now (out .exit)) ≡ put (readText byte) (now (out .entry)) place) × (length (readText byte) ≤ answerRoom) ⌝ }
+fn put_half(out: &mut [u8], place: usize, half: WhichHalf) -> usize
+    ensures { λ r. ⌜ answered r (now (out .exit)) ≡ put (halfText half) (now (out .entry)) place ⌝ }
 {
-    let next = text::put(out, place, b"read ");
-    text::put_hex(out, next, byte)
+    match half {
+        WhichHalf::Low => text::put(out, place, b" low"),
+        WhichHalf::High => text::put(out, place, b" high"),
+        WhichHalf::Neither => text::put(out, place, b" none"),
+    }
+}
+
+fn put_held(out: &mut [u8], place: usize, held: bool) -> usize
+    ensures { λ r. ⌜ answered r (now (out .exit)) ≡ put (heldText held) (now (out .entry)) place ⌝ }
+{
+    if held {
+        return text::put(out, place, b" held");
+    }
+    text::put(out, place, b" live")
+}
+
+fn put_read(out: &mut [u8], place: usize, read: PortRead) -> usize
+    requires { ⌜ place + answerRoom ≤ length (now out) ⌝ }
+    ensures { λ r. ⌜ (answered r (now (out .exit)) ≡ put (readText read) (now (out .entry)) place) × (length (readText read) ≤ answerRoom) ⌝ }
+{
+    let label = read.label;
+    let half = label.half;
+    let mut next = text::put(out, place, b"read ");
+    next = text::put_hex(out, next, read.byte);
+    next = put_half(out, next, half);
+    put_held(out, next, label.held)
 }
 
 fn put_ticks(out: &mut [u8], place: usize, number: TimerTicks, left: SystemTicks) -> usize
@@ -97,7 +122,7 @@ fn put_answer(
 {
     match answer {
         Answer::Refused(refusal) => put_refused(out, place, refusal.number()),
-        Answer::Byte(read) => put_read(out, place, read.byte),
+        Answer::Byte(read) => put_read(out, place, read),
         Answer::Ticks(number) => put_ticks(out, place, number, left),
         Answer::Place(at) => {
             if at == 0 {

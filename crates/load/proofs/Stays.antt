@@ -1,24 +1,33 @@
--- What a load cycle does not do: "Output never moves", a held latch stays, and so do the rules that the mode sets left, the load mask among them. Assumes nothing.
+-- What a load cycle does not do: "Output never moves", no latch is made, ended or half read, a held one stays, and so do the control word and the rules that the mode
+-- sets left, the load mask among them. Assumes nothing.
 use mathlib.Core.Path.{_≡_, refl}
 use mathlib.Core.Bool.{true}
 use Rattle.channel.specs.declared.Channel.{Channel}
 use Rattle.channel.specs.declared.ChannelState.{ChannelState}
 use Rattle.channel.specs.declared.ChannelState.the-variants.{WaitingForReload, WaitingForGate, DeferLoadCycle, WaitingForLoadCycle, WaitingForLoadTrigger, Counting}
 use Rattle.channel.specs.Shared.{changeChannelState, putElement}
+use Rattle.channel.proofs.Follows.{follows-latched, follows-half}
 use Rattle.load.specs.Cycle.{cycleIn, loadCycle}
 
--- the pins, and what the mode sets left for loads
-abbrev Stay : Channel → Channel → Type 0
-Stay c d = (d .pins ≡ c .pins) × (d .reloading ≡ c .reloading)
+record Stay (c d : Channel) : Type 0 where
+  pins : d .pins ≡ c .pins
+  rules : d .reloading ≡ c .reloading
+  control : d .control ≡ c .control
+  latched : d .latch .«count_is_latched» ≡ c .latch .«count_is_latched»
+  half : d .latch .«read_state» ≡ c .latch .«read_state»
+
+all-stays : (c : Channel) → Stay c c
+all-stays c = record { pins = refl; rules = refl; control = refl; latched = refl; half = refl }
 
 stay-in : (s : ChannelState) (c : Channel) → Stay c (cycleIn s c)
 unfolding changeChannelState putElement
-stay-in WaitingForReload c = (refl, refl)
-stay-in WaitingForGate c = (refl, refl)
-stay-in DeferLoadCycle c = (refl, refl)
-stay-in WaitingForLoadCycle c = (refl, refl)
-stay-in WaitingForLoadTrigger c = (refl, refl)
-stay-in (Counting f) c = (refl, refl)
+stay-in WaitingForReload c = all-stays c
+stay-in WaitingForGate c = all-stays c
+stay-in DeferLoadCycle c = record { pins = refl; rules = refl; control = refl; latched = refl; half = refl }
+stay-in WaitingForLoadCycle c =
+    record { pins = refl; rules = refl; control = refl; latched = follows-latched (c .latch) _; half = follows-half (c .latch) _ }
+stay-in WaitingForLoadTrigger c = all-stays c
+stay-in (Counting f) c = all-stays c
 
 module _ (c : Channel) where
   stay : Stay c (loadCycle c)
@@ -26,10 +35,19 @@ module _ (c : Channel) where
   stay = stay-in (c .counter .«channel_state») c
 
   pub pins-stay : loadCycle c .pins ≡ c .pins
-  pins-stay = stay .0
+  pins-stay = stay .pins
 
   pub rules-stay : loadCycle c .reloading ≡ c .reloading
-  rules-stay = stay .1
+  rules-stay = stay .rules
+
+  pub control-stays : loadCycle c .control ≡ c .control
+  control-stays = stay .control
+
+  pub latched-stays : loadCycle c .latch .«count_is_latched» ≡ c .latch .«count_is_latched»
+  latched-stays = stay .latched
+
+  pub half-stays : loadCycle c .latch .«read_state» ≡ c .latch .«read_state»
+  half-stays = stay .half
 
 latch-in : (s : ChannelState) (c : Channel) → c .latch .«count_is_latched» ≡ true → cycleIn s c .latch ≡ c .latch
 unfolding changeChannelState putElement

@@ -19,7 +19,8 @@ use Rattle.channel.specs.Fresh.{freshAt}
 use Rattle.control.specs.declared.Command.the-variants.{SetMode}
 use Rattle.control.specs.Control.{commandOf}
 use Rattle.load.specs.Cycle as channel
-use Rattle.load.proofs.Moved.{moved-element, moved-control, moved-latched, moved-half}
+use Rattle.load.proofs.Moved.{moved-element}
+use Rattle.load.proofs.Stays.{control-stays}
 use Rattle.tick.specs.Loads.{loads}
 use Rattle.tick.proofs.Loaded.{load-moves}
 use Rattle.mode.specs.Mode.{setMode}
@@ -35,19 +36,20 @@ use Rattle.step.specs.Step.{step}
 use Rattle.step.specs.Accepted.{IsAccepted}
 use Rattle.step.specs.Owed.{madeBy}
 use Rattle.step.proofs.Made.{ticks-made}
+use Rattle.step.proofs.Owing.{not-owed}
 use Rattle.step.proofs.Three.{fresh-three, step-three}
 use Rattle.reading.specs.Beginning.{mayBegin, Begins}
 use Rattle.reading.specs.Passing.{Unloaded}
 use Rattle.reading.specs.Counts.{takenIn}
 use Rattle.reading.specs.Reading.{controlWrite}
 use Rattle.reading.specs.Spelling.{remaining}
-use Rattle.reading.proofs.May.{not-latched, low-then-high, no-half-read, may-begin}
-use Rattle.reading.proofs.Counted.{Undisturbed, undisturbed-may, Counted}
+use Rattle.reading.proofs.May.{may-begin}
+use Rattle.reading.proofs.Counted.{Undisturbed, undisturbed-may, cycle-undisturbed, Counted}
 use Rattle.owed.proofs.Nth.{next-tick}
 use Rattle.reading.proofs.Ticked.{ticks-counted}
 use Rattle.reading.proofs.Spelling.{left-below, left-good}
 use Rattle.reading.proofs.Stands.{Stands, counted-stands}
-use Rattle.reading.proofs.Turns.{none-owed, command-turn}
+use Rattle.reading.proofs.Turns.{command-turn}
 
 zero-good : GoodDigits 0
 zero-good = omega arith
@@ -91,7 +93,7 @@ restored-three b = refl
 -- a reset that is accepted
 reset-leaves : (b : Board) (value : Value) → reset b .reply ≡ accepted value → reset b .board ≡ restored b
 unfolding reset
-reset-leaves b value took = ap (λ (o : Outcome). o .board) (none-owed b [] (accept done (restored b)) value took)
+reset-leaves b value took = ap (λ (o : Outcome). o .board) (not-owed b [] (accept done (restored b)) value took)
 
 pub reset-begins : (b : Board) (i : ℕ) → i < 3 → IsAccepted b Reset → Begins (step b Reset .board) i false 0
 reset-begins b i on took =
@@ -123,18 +125,12 @@ module _ (b : Board) (three : length (b .channels) ≡ 3) (i : ℕ) (on : i < 3)
     unfolding loadCycle
     loaded = rw (not-above i on) (put-found b three i on (channel.loadCycle (channelAt b i)))
 
-    cycle-may : mayBegin (channel.loadCycle (channelAt b i)) ≡ true
-    cycle-may =
-        may-begin (channel.loadCycle (channelAt b i)) (moved-latched (channelAt b i) waits ∙ not-latched (channelAt b i) may)
-        (ap (λ (w : ControlWord). w .«rw_mode») (moved-control (channelAt b i) waits) ∙ low-then-high (channelAt b i) may)
-        (moved-half (channelAt b i) waits ∙ no-half-read (channelAt b i) may)
-
     pub load-begins : Begins (step b (LoadCycle i) .board) i (channelAt b i .control .«bcd_mode») (channel.loadValue (channelAt b i))
     load-begins =
         record {
           on-board = on;
-          may = ap mayBegin loaded ∙ cycle-may;
-          radix = ap (λ (c : Channel). c .control .«bcd_mode») loaded ∙ ap (λ (w : ControlWord). w .«bcd_mode») (moved-control (channelAt b i) waits);
+          may = ap mayBegin loaded ∙ undisturbed-may (channelAt b i) (channel.loadCycle (channelAt b i)) (cycle-undisturbed (channelAt b i)) may;
+          radix = ap (λ (c : Channel). c .control .«bcd_mode») loaded ∙ ap (λ (w : ControlWord). w .«bcd_mode») (control-stays (channelAt b i));
           element = ap (λ (c : Channel). c .counter .«counting_element») loaded ∙ moved-element (channelAt b i) waits;
           four-digits = good;
           three-channels = step-three b three (LoadCycle i);

@@ -15,6 +15,9 @@ use Rattle.count.specs.Step.{stepIn}
 use Rattle.count.specs.Count.{count}
 use Rattle.count.proofs.Repeated.{control-kept, element-after}
 use Rattle.count.proofs.Held.{held-after, latched-after, half-after}
+use Rattle.latch.specs.Label.{labelOf}
+use Rattle.load.specs.Cycle.{loadCycle}
+use Rattle.load.proofs.Stays.{control-stays, latched-stays, half-stays, held-stays}
 use Rattle.tick.specs.Taken.{taken}
 use Rattle.tick.specs.Loads.{loads}
 use Rattle.tick.specs.Tick.{tick}
@@ -30,7 +33,7 @@ pub record Undisturbed (c d : Channel) : Type 0 where
   pub same-latched : d .latch .«count_is_latched» ≡ c .latch .«count_is_latched»
   pub still-held : c .latch .«count_is_latched» ≡ true → d .latch ≡ c .latch
 
-undisturbed-then : {c d e : Channel} → Undisturbed c d → Undisturbed d e → Undisturbed c e
+pub undisturbed-then : {c d e : Channel} → Undisturbed c d → Undisturbed d e → Undisturbed c e
 undisturbed-then p q =
     record {
       same-control = q .same-control ∙ p .same-control;
@@ -38,6 +41,19 @@ undisturbed-then p q =
       same-latched = q .same-latched ∙ p .same-latched;
       still-held = λ held. q .still-held (p .same-latched ∙ held) ∙ p .still-held held;
     }
+
+pub undisturbed-none : (c : Channel) → Undisturbed c c
+undisturbed-none c = record { same-control = refl; same-half = refl; same-latched = refl; still-held = λ held. refl }
+
+-- a load cycle disturbs nothing that a read goes by, though it may move the element
+pub cycle-undisturbed : (c : Channel) → Undisturbed c (loadCycle c)
+cycle-undisturbed c =
+    record { same-control = control-stays c; same-half = half-stays c; same-latched = latched-stays c; still-held = held-stays c }
+
+-- a read of the one says what a read of the other says
+pub undisturbed-label : {c d : Channel} → Undisturbed c d → labelOf d ≡ labelOf c
+unfolding labelOf
+undisturbed-label p = simp (p .same-control, p .same-half, p .same-latched)
 
 -- a reading may begin where it could before
 pub undisturbed-may : (c d : Channel) → Undisturbed c d → mayBegin c ≡ true → mayBegin d ≡ true
@@ -51,11 +67,7 @@ pub record Counted (unloaded : Type 0) (k : ℕ) (c d : Channel) : Type 0 where
   pub stepped : unloaded → d .counter .«counting_element» ≡ times k (stepIn (c .control .«bcd_mode»)) (c .counter .«counting_element»)
 
 pub counted-none : {A : Type 0} (c : Channel) → Counted A 0 c c
-counted-none c =
-    record {
-      undisturbed = record { same-control = refl; same-half = refl; same-latched = refl; still-held = λ held. refl };
-      stepped = λ unloaded. refl;
-    }
+counted-none c = record { undisturbed = undisturbed-none c; stepped = λ unloaded. refl }
 
 -- what keeps the count and the latch makes no count
 pub counted-kept : {A : Type 0} {c d : Channel} → Kept c d → Counted A 0 c d

@@ -1,5 +1,5 @@
 -- A record that holds a word for reading, whole or with its low byte read: a latch makes it so, what disturbs nothing keeps it so, and its two reads give the word's
--- bytes. Assumes nothing.
+-- bytes and say that they are held. Assumes nothing.
 use Prim.Native.Nat.{ℕ, _/_, _%_}
 use mathlib.Core.Bool.{true}
 use mathlib.Core.Path.{_≡_, refl, ap, _∙_}
@@ -11,8 +11,10 @@ use Rattle.channel.specs.declared.ReadState.{ReadState}
 use Rattle.channel.specs.declared.ReadState.the-variants.{NoRead, ReadLsb}
 use Rattle.latch.specs.Latching.{latchCount}
 use Rattle.latch.specs.Reading.{readByte}
+use Rattle.latch.specs.Label.{labelOf}
 use Rattle.latch.proofs.Words as words
 use Rattle.reading.specs.Beginning.{mayBegin}
+use Rattle.reading.specs.Spelling.{lowHeld, highHeld}
 use Rattle.reading.proofs.Counted.{Undisturbed}
 use Rattle.reading.proofs.May.{low-then-high, no-half-read, may-begin}
 
@@ -40,6 +42,10 @@ module _ (c : Channel) (word : ℕ) (h : Holds word NoRead c) where
   pub first-byte : readByte c .byte ≡ word % 256
   first-byte = words.first-byte c (h .access) (h .half-read) ∙ ap (λ (x : ℕ). x % 256) (h .held)
 
+  pub first-label : labelOf c ≡ lowHeld
+  unfolding labelOf
+  first-label = simp (h .half-read, h .access, h .latched)
+
   pub first-holds : Holds word ReadLsb (readByte c .channel)
   first-holds =
       record {
@@ -53,6 +59,10 @@ module _ (c : Channel) (word : ℕ) (h : Holds word NoRead c) where
 module _ (c : Channel) (word : ℕ) (h : Holds word ReadLsb c) where
   pub second-byte : readByte c .byte ≡ word / 256
   second-byte = words.second-byte c (h .half-read) ∙ ap (λ (x : ℕ). x / 256) (h .held)
+
+  pub second-label : labelOf c ≡ highHeld
+  unfolding labelOf
+  second-label = simp (h .half-read, h .latched)
 
   pub second-may : mayBegin (readByte c .channel) ≡ true
   second-may =

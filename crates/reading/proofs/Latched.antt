@@ -1,13 +1,11 @@
 -- From the latch of a reading to its end: the channel holds the word that was latched, whatever ticks and refused calls come, and the two reads give its bytes. Assumes nothing.
 use Prim.Native.Nat.{ℕ, _<_}
-use mathlib.Core.Path.{_≡_, ap, _∙_}
+use mathlib.Core.Path.{_≡_}
 use lib.ListN.{length}
-use Rattle.refusal.specs.Reply.{accepted}
 use Rattle.channel.specs.declared.ReadState.the-variants.{NoRead, ReadLsb}
 use Rattle.latch.specs.Reading.{readByte}
 use Rattle.board.specs.declared.Board.{Board}
 use Rattle.board.specs.Board.{channelAt}
-use Rattle.board.specs.Outcome.{byte}
 use Rattle.step.specs.Accepted.{acceptedOf}
 use Rattle.step.proofs.Three.{step-three, steps-three}
 use Rattle.reading.specs.Passing.{AllMayPass, NoLoads}
@@ -16,7 +14,7 @@ use Rattle.reading.specs.Reading.{readOf, Calls, latched, atFirst, halfR
 use Rattle.reading.specs.Spelling.{Spells}
 use Rattle.reading.proofs.Counted.{Counted}
 use Rattle.reading.proofs.Passing.{all-pass}
-use Rattle.reading.proofs.Holds.{Holds, undisturbed-holds, first-byte, first-holds, second-byte}
+use Rattle.reading.proofs.Holds.{Holds, undisturbed-holds, first-byte, first-label, first-holds, second-byte, second-label}
 use Rattle.reading.proofs.Turns.{read-reply, read-leaves}
 
 -- the latch was made, and only what may pass is accepted after it
@@ -55,8 +53,8 @@ module _ {b : Board} {i : ℕ} {calls : Calls} {word : ℕ} (l : Latched b i cal
 
   pub spells : Spells word (firstReply b i calls) (secondReply b i calls)
   spells = (
-    read-reply (atFirst b i calls) i (l .on-board)
-        ∙ ap (λ (x : ℕ). accepted (byte (record { byte = x }))) (first-byte (channelAt (atFirst b i calls) i) word holds-first),
-    read-reply (atSecond b i calls) i (l .on-board)
-        ∙ ap (λ (x : ℕ). accepted (byte (record { byte = x }))) (second-byte (channelAt (atSecond b i calls) i) word holds-second),
+    rw (first-byte (channelAt (atFirst b i calls) i) word holds-first, first-label (channelAt (atFirst b i calls) i) word holds-first) at
+        (read-reply (atFirst b i calls) i (l .on-board)),
+    rw (second-byte (channelAt (atSecond b i calls) i) word holds-second, second-label (channelAt (atSecond b i calls) i) word holds-second) at
+        (read-reply (atSecond b i calls) i (l .on-board)),
   )

@@ -14,4 +14,5 @@ pub mod Promise
 pub mod ByHand
 pub mod Witnesses
 pub mod Beginnings
+pub mod Held
 pub mod Apart

@@ -48,7 +48,7 @@ use Rattle.reading.proofs.Counted.{Counted, counted-none, counted-kept,
 use Rattle.reading.proofs.Ticked.{ticks-counted}
 
 -- channel n is the one that is read, or another
-by-same : (i n : ℕ) (P : Type 0) → (n ≡ i → P) → ((i ≡ n → ⊥) → P) → P
+pub by-same : (i n : ℕ) (P : Type 0) → (n ≡ i → P) → ((i ≡ n → ⊥) → P) → P
 by-same i n P same other = go (eqb n i) refl
   where
     go : (b : Bool) → eqb n i ≡ b → P
@@ -159,7 +159,7 @@ module _ (b : Board) (three : length (b .channels) ≡ 3) (i : ℕ) (on : i < 3)
       let none : countsIn i b o ≡ 0 = ap (λ (reply : Reply Value). ifAccepted reply (countsBy i b o)) e in
       rw (none, refused-leaves b o number e .0) (counted-none (channelAt b i))
 
-  accepted-passes : (o : Operation) → MayPass i o → IsAccepted b o → Passed o
+  pub accepted-passes : (o : Operation) → MayPass i o → IsAccepted b o → Passed o
   accepted-passes o may took =
       let all : countsIn i b o ≡ countsBy i b o = ap (λ (reply : Reply Value). ifAccepted reply (countsBy i b o)) (took .1) in
       rw all (passes o may took)

@@ -31,10 +31,10 @@ pub reads-the-count : ReadsTheCount
 reads-the-count b i bcd v calls reading = spells (steps-of.holding reading)
 
 pub never-alike : NeverAlike
-never-alike bcd v b i calls reading c j others other few fewer differ first second =
+never-alike bcd v b i calls reading c j others other few fewer differ x y first second third fourth =
     differ
     (left-apart bcd v (countsMade b i calls) (countsMade c j others) few fewer
-    (spelled-once _ _ (firstReply b i calls) (secondReply b i calls) (spells (steps-of.holding reading)) (rw (first, second) (spells (steps-of.holding other)))))
+    (spelled-once _ _ (firstReply b i calls) (secondReply b i calls) (firstReply c j others) (secondReply c j others) (spells (steps-of.holding reading)) (spells (steps-of.holding other)) x y first second third fourth))
 
 pub begins-again : BeginsAgain
 begins-again b i bcd v calls reading later = steps-of.begins-again reading later

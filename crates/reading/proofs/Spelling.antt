@@ -11,9 +11,11 @@ use Rattle.numbers.proofs.Modulo.{below, again, apart}
 use Rattle.numbers.proofs.Digits.{weight-packed, packed-below, good-packed}
 use Rattle.count.specs.Step.{stepIn}
 use Rattle.count.proofs.Repeated.{binary-times, decimal-times}
-use Rattle.refusal.specs.Reply.{Reply, refused, accepted}
-use Rattle.board.specs.Outcome.{Value, done, newPlace, byte, ticks, outputState, channelCount, retriggers, dirtyMarks, timerAccum, worked}
-use Rattle.reading.specs.Spelling.{remaining, Spells}
+use Rattle.refusal.specs.Reply.{Reply, accepted}
+use Rattle.latch.specs.declared.label.Label.{Label}
+use Rattle.board.specs.declared.PortRead.{PortRead}
+use Rattle.board.specs.Outcome.{Value, byte}
+use Rattle.reading.specs.Spelling.{remaining, Says, Gives, Spells}
 
 pub steps-left : (bcd : Bool) (n v : ℕ) → v < 65536 → (bcd ≡ true → GoodDigits v) → times n (stepIn bcd) v ≡ remaining bcd v n
 steps-left false n v h good = binary-times n v h
@@ -42,25 +44,19 @@ left-apart true v n k hn hk e =
     ∙ ap weight e
     ∙ weight-packed (minusMod 10000 (weight v) k) (below 10000 (weight v) k (omega arith)))
 
-abbrev byteIn : Value → ℕ
-byteIn done = 0
-byteIn (newPlace p) = 0
-byteIn (byte r) = r .byte
-byteIn (ticks n) = 0
-byteIn (outputState level) = 0
-byteIn (channelCount register element counting) = 0
-byteIn (retriggers answer) = 0
-byteIn (dirtyMarks dirty counting ticked) = 0
-byteIn (timerAccum left) = 0
-byteIn (worked made p) = 0
+-- two reads that answer the same gave the same byte and said the same of it
+pub same-read : (r s : PortRead) → _≡_ {A = Reply Value} (accepted (byte r)) (accepted (byte s)) → r ≡ s
+same-read r s e = cc
 
-abbrev byteOf : Reply Value → ℕ
-byteOf (refused number) = 0
-byteOf (accepted value) = byteIn value
+same-byte : (x y : ℕ) (l m : Label) (reply : Reply Value) → Says x l reply → Says y m reply → x ≡ y
+same-byte x y l m reply p q = ap (λ (r : PortRead). r .byte) (same-read _ _ (sym p ∙ q))
 
 -- two bytes spell one word
-pub spelled-once : (w u : ℕ) (first second : Reply Value) → Spells w first second → Spells u first second → w ≡ u
-spelled-once w u first second p q =
-    let low : w % 256 ≡ u % 256 = ap byteOf (sym (p .0) ∙ q .0) in
-    let high : w / 256 ≡ u / 256 = ap byteOf (sym (p .1) ∙ q .1) in
+pub spelled-once : (w u : ℕ) (first second third fourth : Reply Value) → Spells w first second → Spells u third fourth
+    → (x y : ℕ) → Gives x first → Gives y second → Gives x third → Gives y fourth → w ≡ u
+spelled-once w u first second third fourth p q x y low high low' high' =
+    let w-low : w % 256 ≡ x = same-byte _ _ _ _ first (p .0) (low .1) in
+    let w-high : w / 256 ≡ y = same-byte _ _ _ _ second (p .1) (high .1) in
+    let u-low : u % 256 ≡ x = same-byte _ _ _ _ third (q .0) (low' .1) in
+    let u-high : u / 256 ≡ y = same-byte _ _ _ _ fourth (q .1) (high' .1) in
     omega arith

@@ -1,18 +1,18 @@
 -- The turns of a reading that are its own, on the board: a command of the channel, and the two reads. Assumes nothing.
 use Prim.Native.Nat.{ℕ, _<_}
 use mathlib.Core.List.{List}
-use mathlib.Core.Path.{_≡_, refl, sym, ap, _∙_}
+use mathlib.Core.Path.{_≡_, sym, ap, _∙_}
 use lib.ListN.{length}
 use Rattle.refusal.specs.Reply.{accepted}
-use Rattle.refusal.proofs.Apart.{refused-not}
 use Rattle.channel.specs.declared.Channel.{Channel}
 use Rattle.control.specs.declared.Command.{Command}
 use Rattle.control.specs.Control.{commandOf}
 use Rattle.latch.specs.Reading.{readByte}
+use Rattle.latch.specs.Label.{labelOf}
 use Rattle.board.specs.declared.Board.{Board}
 use Rattle.board.specs.Board.{channelAt}
 use Rattle.board.proofs.Channels.{put-found}
-use Rattle.board.specs.Outcome.{Outcome, Value, byte, unlessOwed}
+use Rattle.board.specs.Outcome.{Outcome, Value}
 use Rattle.ports.specs.Port.{portOf}
 use Rattle.ports.proofs.Below.{data-port}
 use Rattle.ports.specs.Settle.{settle}
@@ -21,23 +21,17 @@ use Rattle.ports.specs.Reads.{dataRead, readFrom, readPort}
 use Rattle.ports.specs.Writes.{controlRegisterWrite, writePort}
 use Rattle.step.specs.Step.{step}
 use Rattle.step.specs.Accepted.{IsAccepted}
-use Rattle.step.proofs.Owing.{by-owed}
+use Rattle.step.proofs.Owing.{not-owed}
 use Rattle.reading.specs.Reading.{readOf, controlWrite}
+use Rattle.reading.specs.Spelling.{Says}
 
 pub read-turn : (b : Board) (i : ℕ) → i < 3 → step b (readOf i) ≡ dataRead b i
 unfolding readPort
 read-turn b i on = ap (readFrom b) (data-port i on)
 
--- the byte is the record's own
-pub read-reply : (b : Board) (i : ℕ) → i < 3 → step b (readOf i) .reply ≡ accepted (byte (record { byte = readByte (channelAt b i) .byte }))
+-- the byte is the record's own, and so is what is said of it
+pub read-reply : (b : Board) (i : ℕ) → i < 3 → Says (readByte (channelAt b i) .byte) (labelOf (channelAt b i)) (step b (readOf i) .reply)
 read-reply b i on = ap (λ (o : Outcome). o .reply) (read-turn b i on)
-
--- refusal 16 is not given to an accepted call
-pub none-owed : (b : Board) (events : List ℕ) (outcome : Outcome) (value : Value) → unlessOwed b events outcome .reply ≡ accepted value
-    → unlessOwed b events outcome ≡ outcome
-none-owed b events outcome value =
-    by-owed (λ (o : Outcome). o .reply ≡ accepted value → o ≡ outcome) b events outcome (λ owes took. absurd (refused-not 16 value took))
-    (λ none took. refl)
 
 module _ (b : Board) (three : length (b .channels) ≡ 3) (i : ℕ) (on : i < 3) where
   -- and so is what is left in its place
@@ -58,6 +52,6 @@ module _ (b : Board) (three : length (b .channels) ≡ 3) (i : ℕ) (on : i < 3)
   unfolding writePort portOf
   command-turn x events place command c is leaves took =
       let e : step b (controlWrite x events place) ≡ settle b i c events place =
-      none-owed b events (controlRegisterWrite b (commandOf x) events place) (took .0) (took .1) ∙ rw is leaves in
+      not-owed b events (controlRegisterWrite b (commandOf x) events place) (took .0) (took .1) ∙ rw is leaves in
       ap (λ (o : Outcome). channelAt (o .board) i) e
       ∙ settled-found c events place (took .0) (sym (ap (λ (o : Outcome). o .reply) e) ∙ took .1)

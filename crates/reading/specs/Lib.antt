@@ -6,4 +6,5 @@ pub mod Spelling
 pub mod Word
 pub mod ReadCount
 pub mod Promise
+pub mod Held
 pub mod ByHand

@@ -1,4 +1,5 @@
--- Demand 3 itself, over the step of the board, and what goes with it. All are proved in proofs/Promise.antt; docs/READING.md says them in words.
+-- Demand 3 itself, over the step of the board, and what goes with it. All are proved in proofs/Promise.antt; docs/READING.md says them in words. What the words of any two
+-- reads are worth is in Held.antt.
 use Prim.Native.Nat.{ℕ, _<_}
 use mathlib.Core.Bool.{Bool}
 use mathlib.Core.List.{List}
@@ -14,24 +15,26 @@ use Rattle.reading.specs.Beginning.{Begins}
 use Rattle.reading.specs.Passing.{AllMayPass, NoLoads}
 use Rattle.reading.specs.Counts.{countsOn}
 use Rattle.reading.specs.Reading.{Calls, latch, threeCalls, atEnd, firstReply, secondReply, countsMade, countsInAll, NoLaterLoads, Reading}
-use Rattle.reading.specs.Spelling.{remaining, Spells}
+use Rattle.reading.specs.Spelling.{remaining, Gives, Spells}
 use Rattle.reading.specs.ReadCount.{readCount}
 
--- "The bytes spell (v - n) mod 65,536, or in BCD, v read as decimal, the digits of (v - n) mod 10,000."
+-- "The bytes spell (v - n) mod 65,536, or in BCD, v read as decimal, the digits of (v - n) mod 10,000." By 02, L3, the reads say `low held`, then `high held`.
 abbrev pub ReadsTheCount : Type 0
 ReadsTheCount =
     (b : Board) (i : ℕ) (bcd : Bool) (v : ℕ) (calls : Calls) → Reading b i bcd v calls
     → Spells (remaining bcd v (countsMade b i calls)) (firstReply b i calls) (secondReply b i calls)
 
--- "So two runs from one v in one radix whose n differ, both below that modulus, never read alike." Boards, channels and lists may differ.
+-- "So two runs from one v in one radix whose n differ, both below that modulus, never read alike." Boards, channels and lists may differ. It is the bytes that are
+-- never alike, whatever is said of them.
 abbrev pub NeverAlike : Type 0
 NeverAlike =
     (bcd : Bool) (v : ℕ) (b : Board) (i : ℕ) (calls : Calls) → Reading b i bcd v calls → (c : Board) (j : ℕ) (others : Calls) → Reading c j bcd v others
     → countsMade b i calls < radixCounts bcd
     → countsMade c j others < radixCounts bcd
     → (countsMade b i calls ≡ countsMade c j others → ⊥)
-    → firstReply b i calls ≡ firstReply c j others
-    → secondReply b i calls ≡ secondReply c j others
+    → (x y : ℕ) → Gives x (firstReply b i calls) → Gives y (secondReply b i calls)
+    → Gives x (firstReply c j others)
+    → Gives y (secondReply c j others)
     → ⊥
 
 -- One reading after another: at its end the next may begin, from v less all counts, those after the latch included, if no tick after the latch loaded the channel either.

@@ -1,8 +1,10 @@
 // What demand 3 does not promise (docs/READING.md): for each exclusion, and for each condition but "not latched", which no list needs today, a short list of calls on
-// which the two bytes read are not v - n, beside the same list without the fault, on which they are. Then what `read_count` answers where a reading may begin, and where not.
+// which the two bytes read are not v - n, beside the same list without the fault, on which they are. Then what `read_count` answers where a reading may begin, and where not;
+// and what the words of a read tell of its byte, and what they do not.
 use board::Answer;
 use board::Board;
 use channel::PitType;
+use latch::WhichHalf;
 use libc::STDOUT_FILENO;
 use reading::CountAnswer;
 use time::SystemTicks;
@@ -269,10 +271,84 @@ fn in_one_call() {
     say_count(b"half-read word", first.board, 0);
 }
 
+fn say_half(half: WhichHalf) {
+    match half {
+        WhichHalf::Low => say(b" low"),
+        WhichHalf::High => say(b" high"),
+        WhichHalf::Neither => say(b" none"),
+    }
+}
+
+fn say_held(held: bool) {
+    if held {
+        say(b" held");
+    } else {
+        say(b" live");
+    }
+}
+
+// The byte and its two words.
+fn say_answer(answer: Answer) {
+    let Answer::Byte(read) = answer else {
+        return;
+    };
+    say(b" ");
+    io::print_hex(STDOUT_FILENO, read.byte as u64, 2);
+    let label = read.label;
+    let half = label.half;
+    say_half(half);
+    say_held(label.held);
+}
+
+fn say_read(b: Board, port: u16) -> Board {
+    let r = calls::read_port(b, port);
+    let answer = r.answer;
+    say_answer(answer);
+    r.board
+}
+
+fn say_two(b: Board) -> Board {
+    say_read(say_read(b, DATA), DATA)
+}
+
+fn say_element(b: Board) {
+    let c = b.channels[0];
+    let k = c.counter;
+    say(b", the count is ");
+    io::print_hex(STDOUT_FILENO, k.counting_element as u64, 4);
+    say(b"\n");
+}
+
+// A count of 0x0100, whose high byte changes with the next count.
+fn torn_words() {
+    let start = load(fresh(), 0x00, 0x01);
+    say(b"held word, a count between its bytes:");
+    say_read(counts(say_read(latch(start), DATA), 1), DATA);
+    say(b"\ntorn word, a count and a latch between its bytes:");
+    say_read(latch(counts(say_read(start, DATA), 1)), DATA);
+    say(b"\nword of two latches, a count between them:");
+    say_read(latch(counts(say_read(latch(start), DATA), 1)), DATA);
+    say(b"\n");
+}
+
+// Not latched, and yet not the count of the moment.
+fn live_words() {
+    let start = load(fresh(), 5, 0);
+    say(b"after a latch is read out:");
+    say_element(say_two(say_two(counts(latch(start), 1))));
+    say(b"after a mode set:");
+    say_element(say_two(write(start, COMMAND, BOTH_BYTES)));
+    say(b"command port, channel 0 latched:");
+    say_read(latch(start), COMMAND);
+    say(b"\n");
+}
+
 fn main() {
     exclusions();
     unlatched();
     conditions();
     refusals();
     in_one_call();
+    torn_words();
+    live_words();
 }

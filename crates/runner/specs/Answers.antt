@@ -1,11 +1,14 @@
 -- docs/ENCODING.md, "The answers of a trace: 16 bytes an operation".
 use Prim.Native.Nat.{ℕ, _+_}
 use mathlib.Core.Bool.{cond}
-use mathlib.Core.List.{List, _∷_, _++_}
+use mathlib.Core.List.{List, [], _∷_}
 use lib.Dec.{ltb}
 use lib.ListN.{getD}
+use Rattle.numbers.specs.Flags.{flagNumber}
 use Rattle.numbers.specs.Little.{fourBytes}
 use Rattle.refusal.specs.Reply.{Reply, refused, accepted}
+use Rattle.latch.specs.Label.{halfNumber}
+use Rattle.board.specs.declared.PortRead.{PortRead}
 use Rattle.board.specs.Outcome.{Value, done, newPlace, byte, ticks, outputState, channelCount, retriggers, dirtyMarks, timerAccum, worked}
 use Rattle.runner.specs.declared.answering.Said.{Said}
 
@@ -13,9 +16,13 @@ use Rattle.runner.specs.declared.answering.Said.{Said}
 abbrev pub traceAnswerSize : ℕ
 traceAnswerSize = 1 + 1 + 6 + 4 + 4
 
--- "the refusal's number, or 0", "how many event bytes were written", "the byte read, the timer ticks yielded, or the ticks made"
+-- "the refusal's number, or 0", "how many event bytes were written", "the timer ticks yielded, or the ticks made"
 abbrev pub saying : ℕ → ℕ → ℕ → Said
-saying refusal written value = record { refusal = refusal; written = written; value = value }
+saying refusal written number = record { refusal = refusal; written = written; value = fourBytes number }
+
+-- of a read: "8 the byte, 9 its half, 10 1 if it was held, 11 0"
+abbrev pub readSaid : PortRead → Said
+readSaid r = record { refusal = 0; written = 0; value = r .byte ∷ halfNumber (r .label .half) ∷ flagNumber (r .label .held) ∷ 0 ∷ [] }
 
 -- events are lent "at place 0", so as many bytes were written as the new place says; no more than six are lent
 abbrev pub bytesWritten : ℕ → ℕ
@@ -24,7 +31,7 @@ bytesWritten place = cond (ltb 6 place) 6 place
 -- "0 where none of them is answered"
 abbrev pub saidBy : Value → Said
 saidBy (newPlace place) = saying 0 (bytesWritten place) 0
-saidBy (byte r) = saying 0 0 (r .byte)
+saidBy (byte r) = readSaid r
 saidBy (ticks number) = saying 0 0 number
 saidBy done = saying 0 0 0
 saidBy (outputState level) = saying 0 0 0
@@ -42,7 +49,7 @@ saidIn (accepted value) = saidBy value
 abbrev pub saidBytes : Said → List ℕ → ℕ → List ℕ
 saidBytes s events left =
     s .refusal ∷ s .written ∷ getD events 0 0 ∷ getD events 1 0 ∷ getD events 2 0 ∷ getD events 3 0 ∷ getD events 4 0 ∷ getD events 5 0
-    ∷ fourBytes (s .value) ++ fourBytes left
+    ∷ getD (s .value) 0 0 ∷ getD (s .value) 1 0 ∷ getD (s .value) 2 0 ∷ getD (s .value) 3 0 ∷ fourBytes left
 
 unfoldable pub traceAnswerBytes : Reply Value → List ℕ → ℕ → List ℕ
 traceAnswerBytes reply events left = saidBytes (saidIn reply) events left

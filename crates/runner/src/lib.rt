@@ -177,16 +177,11 @@ fn tell(
                         let got = latch::read_byte(c);
                         let next = got.channel;
                         b.channels[i] = next;
+                        let byte = got.byte;
+                        let label = latch::label_of(c);
+                        let answer = Answer::Byte(PortRead { byte, label });
                         let left = b.remainder;
-                        at = say(
-                            form,
-                            out,
-                            at,
-                            index,
-                            Answer::Byte(PortRead { byte: got.byte }),
-                            none,
-                            left,
-                        );
+                        at = say(form, out, at, index, answer, none, left);
                     }
                     Work::Counts(number) => {
                         let c = b.channels[i];

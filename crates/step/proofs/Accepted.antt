@@ -1,6 +1,6 @@
 -- A refused call leaves the board: a list of operations leaves what its accepted calls leave, all of which are accepted without the others too. Assumes nothing.
 use Prim.Native.Nat.{ℕ}
-use mathlib.Core.List.{List, [], _∷_}
+use mathlib.Core.List.{List, [], _∷_, _++_}
 use mathlib.Core.Path.{_≡_, refl, ap, subst, _∙_}
 use Rattle.refusal.specs.Reply.{Reply, refused, accepted}
 use Rattle.board.specs.declared.Board.{Board}
@@ -9,6 +9,11 @@ use Rattle.step.specs.Operation.{Operation}
 use Rattle.step.specs.Step.{step, steps}
 use Rattle.step.specs.Accepted.{AllAccepted, unlessRefused, acceptedOf}
 use Rattle.step.proofs.Leaves.{refused-leaves}
+
+-- one list after another
+pub steps-both : (b : Board) (os ps : List Operation) → steps b (os ++ ps) ≡ steps (steps b os) ps
+steps-both b [] ps = refl
+steps-both b (o ∷ os) ps = steps-both (step b o .board) os ps
 
 -- what holds of a refusal, and of a call that is accepted, holds of the call's reply
 pub by-reply : (b : Board) (o : Operation) (P : Reply Value → Type 0) → ((number : ℕ) → step b o .reply ≡ refused number → P (refused number))

@@ -127,11 +127,11 @@ unfolding writePort
 write-refused b port byte events place k =
     by-port port (λ (p : Port). (writeTo b p byte events place .reply ≡ refused k) ↔ FirstOf (portUnknown port ∷ ticksOwed b ∷ roomOrder (WriteDue b p byte) events place) k)
     (λ out. holding (portUnknown port) (ticksOwed b ∷ roomOrder ⊥ events place) k out)
-    (λ n on range.
-    failing (portUnknown port) (ticksOwed b ∷ roomOrder (WriteDue b (Data n) byte) events place) _ k (λ out. out range)
+    (λ n on is.
+    failing (portUnknown port) (ticksOwed b ∷ roomOrder (WriteDue b (Data n) byte) events place) _ k (λ out. out (omega arith, omega arith))
     (unless-owed b events _ (roomOrder (WriteDue b (Data n) byte) events place) k (data-refused b n byte events place k)))
-    (λ range.
-    failing (portUnknown port) (ticksOwed b ∷ roomOrder (CommandDue b (commandOf byte)) events place) _ k (λ out. out range)
+    (λ is.
+    failing (portUnknown port) (ticksOwed b ∷ roomOrder (CommandDue b (commandOf byte)) events place) _ k (λ out. out (omega arith, omega arith))
     (unless-owed b events _ (roomOrder (CommandDue b (commandOf byte)) events place) k (command-refused b (commandOf byte) events place k)))
 
 read-refused : (b : Board) (port k : ℕ) → (readPort b port .reply ≡ refused k) ↔ FirstOf (portUnknown port ∷ []) k
@@ -139,8 +139,8 @@ unfolding readPort
 read-refused b port k =
     by-port port (λ (p : Port). (readFrom b p .reply ≡ refused k) ↔ FirstOf (portUnknown port ∷ []) k)
     (λ out. holding (portUnknown port) [] k out)
-    (λ n on range. failing (portUnknown port) [] _ k (λ out. out range) (accepts _ k))
-    (λ range. failing (portUnknown port) [] _ k (λ out. out range) (accepts _ k))
+    (λ n on is. failing (portUnknown port) [] _ k (λ out. out (omega arith, omega arith)) (accepts _ k))
+    (λ is. failing (portUnknown port) [] _ k (λ out. out (omega arith, omega arith)) (accepts _ k))
 
 reset-refused : (b : Board) (k : ℕ) → (reset b .reply ≡ refused k) ↔ FirstOf (ticksOwed b ∷ []) k
 unfolding reset

@@ -149,7 +149,7 @@ fn last(name: &[u8], code: u8, target: u8, number: u32, length: usize) {
             number,
         },
     );
-    show_end(name, &trace, length, 35);
+    show_end(name, &trace, length, 54);
 }
 
 fn heads() {

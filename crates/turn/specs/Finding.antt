@@ -8,6 +8,7 @@ use Rattle.refusal.specs.declared.Refusal.the-variants.{PortUnknown, ChannelAbo
 use Rattle.control.specs.declared.Command.{Command}
 use Rattle.control.specs.declared.Command.the-variants as command
 use Rattle.control.specs.Control.{commandOf}
+use Rattle.latch.specs.Label.{commandLabel}
 use Rattle.board.specs.declared.Answer.the-variants.{Refused, Byte}
 use Rattle.time.specs.declared.SystemTicks.{SystemTicks}
 use Rattle.ports.specs.declared.port.Port.{Port}
@@ -39,7 +40,7 @@ writeTurn owing port.Unknown byte = refuse PortUnknown
 -- "The command port reads 0."
 abbrev pub readTurn : Port → Turn
 readTurn (port.Data n) = OnChannel n work.Read
-readTurn port.Command = Say (Byte (record { byte = 0 }))
+readTurn port.Command = Say (Byte (record { byte = 0; label = commandLabel }))
 readTurn port.Unknown = refuse PortUnknown
 
 -- 2 "channel above 2"

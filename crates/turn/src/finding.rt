@@ -88,7 +88,10 @@ pub fn read_turn(port: u16) -> Turn
     let known = port_of(port);
     match known {
         Port::Data(n) => Turn::OnChannel(n as u8, Work::Read),
-        Port::Command => Turn::Say(Answer::Byte(PortRead { byte: 0 })),
+        Port::Command => {
+            let label = latch::command_label();
+            Turn::Say(Answer::Byte(PortRead { byte: 0, label }))
+        }
         Port::Unknown => refuse(Refusal::PortUnknown),
     }
 }

@@ -32,8 +32,10 @@ pub fn work_on(
         Work::Read => {
             let got = latch::read_byte(c);
             let channel = got.channel;
+            let byte = got.byte;
+            let label = latch::label_of(c);
             Settled {
-                answer: Answer::Byte(PortRead { byte: got.byte }),
+                answer: Answer::Byte(PortRead { byte, label }),
                 channel,
             }
         }

@@ -20,7 +20,7 @@ use Rattle.board.specs.Outcome.{Value}
 use Rattle.step.specs.Operation.{Operation, WritePort}
 use Rattle.step.specs.Accepted.{IsAccepted, AllAccepted, unlessRefused}
 use Rattle.step.specs.Step.{step, steps}
-use Rattle.step.proofs.Accepted.{by-reply}
+use Rattle.step.proofs.Accepted.{steps-both, by-reply}
 use Rattle.step.proofs.Kept.{settings-kept}
 use Rattle.sheet.specs.ControlByte.{Access, lowByte, highByte, lowThenHigh, Request, program, requestOf}
 use Rattle.sheet.specs.Gate.{fallEffect, riseEffect}
@@ -49,10 +49,6 @@ over-both : (i : ℕ) (b : Board) (os ps : List Operation) (d : Bool) (w : Watch
     → watchOver i b (os ++ ps) d w ≡ watchOver i (steps b os) ps (defersOver b os d) (watchOver i b os d w)
 over-both i b [] ps d w = refl
 over-both i b (o ∷ os) ps d w = over-both i (step b o .board) os ps (defersAfter b o d) (hears i b d o w)
-
-steps-both : (b : Board) (os ps : List Operation) → steps b (os ++ ps) ≡ steps (steps b os) ps
-steps-both b [] ps = refl
-steps-both b (o ∷ os) ps = steps-both (step b o .board) os ps
 
 bytes-both : (os ps : List Operation) → OnlyBytes os → OnlyBytes ps → OnlyBytes (os ++ ps)
 bytes-both [] ps small others = others

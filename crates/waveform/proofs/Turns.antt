@@ -1,12 +1,12 @@
 -- One call of the board, as a channel hears it: the channel stays in step with the sheets' counter. Assumes nothing.
-use Prim.Native.Nat.{ℕ, zero, suc, _+_, _-_, _<_, _≤_}
+use Prim.Native.Nat.{ℕ, zero, suc, _+_, _<_}
 use mathlib.Core.Bool.{Bool, true, false, cond}
 use mathlib.Core.List.{List, []}
 use mathlib.Core.Path.{_≡_, refl, sym, ap, _∙_, subst}
 use native.Mathlib.Omega.{arith}
 use lib.Dec.{eqb, ltb}
 use lib.ListN.{length}
-use borrow.Author.Tests.{ne-eqb, eqb-true, eqb-false, ltb-true, ltb-false}
+use borrow.Author.Tests.{ne-eqb, eqb-true, eqb-false}
 use Rattle.numbers.specs.Times.{times}
 use Rattle.refusal.specs.Reply.{accepted}
 use Rattle.refusal.proofs.Apart.{refused-not}
@@ -40,6 +40,7 @@ use Rattle.ports.specs.Gates.{setChannelGate}
 use Rattle.ports.specs.Reads.{readFrom, readPort}
 use Rattle.ports.specs.Settle.{settle}
 use Rattle.ports.specs.Writes.{controlRegisterWrite, writeTo, writePort}
+use Rattle.ports.proofs.Below.{by-port}
 use Rattle.ports.proofs.Settling.{settle-taken}
 use Rattle.owed.specs.BoardTick.{boardTick}
 use Rattle.owed.specs.Worked.{workOff}
@@ -49,7 +50,7 @@ use Rattle.step.specs.Owed.{madeBy}
 use Rattle.step.specs.Step.{step}
 use Rattle.step.specs.Touched.{CommandTouches, Touches}
 use Rattle.step.proofs.Made.{ticks-made}
-use Rattle.step.proofs.Owing.{by-owed}
+use Rattle.step.proofs.Owing.{not-owed}
 use Rattle.step.proofs.Touched.{write-stays, untouched-stays}
 use Rattle.sheet.specs.ControlByte.{Request, requestOf}
 use Rattle.agreement.specs.Words.{sheetChip}
@@ -62,28 +63,6 @@ use Rattle.agreement.proofs.TrackGate.{gate-tracks}
 use Rattle.agreement.proofs.TrackBytes.{write-tracks}
 use Rattle.agreement.proofs.TrackOthers.{program-tracks, reset-tracks, counts-track, cycle-tracks}
 use Rattle.waveform.specs.Heard.{heardControl, heardByte, heardOf, IsByte}
-
--- an accepted call was not refused
-not-owed : (b : Board) (events : List ℕ) (outcome : Outcome) (value : Value) → unlessOwed b events outcome .reply ≡ accepted value
-    → unlessOwed b events outcome ≡ outcome
-not-owed b events outcome value =
-    by-owed (λ (o : Outcome). o .reply ≡ accepted value → o ≡ outcome) b events outcome (λ owes took. absurd (refused-not 16 value took)) (λ none took. refl)
-
--- the port's number, taken apart
-data-back : (port : ℕ) (low isData isCommand : Bool) → ltb port 0x40 ≡ low → ltb port 0x43 ≡ isData → eqb port 0x43 ≡ isCommand → (P : Port → Type 0)
-    → ((n : ℕ) → port ≡ 0x40 + n → n < 3 → P (Data n)) → (port ≡ 0x43 → P CommandPort) → P Unknown
-    → P (cond low Unknown (cond isData (Data (port - 0x40)) (cond isCommand CommandPort Unknown)))
-data-back port true isData isCommand l d c P counter command other = other
-data-back port false true isCommand l d c P counter command other =
-    let lowest : 0x40 ≤ port = ltb-false port 0x40 l in
-    let highest : port < 0x43 = ltb-true port 0x43 d in
-    counter (port - 0x40) (omega arith) (omega arith)
-data-back port false false true l d c P counter command other = command (eqb-true port 0x43 c)
-data-back port false false false l d c P counter command other = other
-
-by-port : (port : ℕ) (P : Port → Type 0) → ((n : ℕ) → port ≡ 0x40 + n → n < 3 → P (Data n)) → (port ≡ 0x43 → P CommandPort) → P Unknown → P (portOf port)
-unfolding portOf
-by-port port P counter command other = data-back port (ltb port 0x40) (ltb port 0x43) (eqb port 0x43) refl refl refl P counter command other
 
 module _ (b : Board) (three : length (b .channels) ≡ 3) (i : ℕ) (on : i < 3) (w : Watch) (now : Tracks (b .model) w (coreOf (channelAt b i))) where
   -- the channel after a call, in step with a counter
@@ -194,10 +173,9 @@ module _ (b : Board) (three : length (b .channels) ≡ 3) (i : ℕ) (on : i < 3)
 
   port-turn : (port byte : ℕ) (events : List ℕ) (place : ℕ) (value : Value) → byte < 256 → WriteThen port byte events place value (portOf port)
   port-turn port byte events place value small =
-      by-port port (WriteThen port byte events place value)
-      (λ n is below. own-port n port byte events place value small is below (eqb port (0x40 + i)) refl)
+      by-port port (WriteThen port byte events place value) (λ out took. absurd (refused-not 1 value took))
+      (λ n below is. own-port n port byte events place value small is below (eqb port (0x40 + i)) refl)
       (λ is. subst (λ (q : ℕ). WriteThen q byte events place value CommandPort) (sym is) (command-of byte events place value small))
-      (λ took. absurd (refused-not 1 value took))
 
   -- a level at a gate
   gate-turn : (n : ℕ) (level : Bool) (events : List ℕ) (place : ℕ) (value : Value) → n ≡ i

@@ -1,7 +1,7 @@
 //! Random calls of `pit_board_new` and `pit_board_operation` through two archives. After each call the status and all lent bytes must be
-//! the same, with those before and past them.
+//! the same, with those before and past them; where the old archive is of before request L3, without the words of reads.
 
-use crate::ours::{Door, Operation, LENGTH, NEW, OLD};
+use crate::ours::{has_words, Door, Operation, LENGTH, NEW, OLD, READ};
 use std::collections::BTreeMap;
 
 /// The limit of each byte of a record, as docs/ENCODING.md has it; a number's bytes have none.
@@ -65,6 +65,15 @@ impl Call {
             Function::BoardOperation(op) => door.operation(board, &mut events[..lengths[1]], &mut answer[..lengths[2]], op),
         };
         (status, bytes)
+    }
+
+    /// The same with the two numbers of a read's words made 0, and whether there were such.
+    fn words_off(&self, (status, mut bytes): (u32, [u8; BYTES])) -> ((u32, [u8; BYTES]), bool) {
+        let read = status == 0 && matches!(self.function, Function::BoardOperation(Operation { code: READ, .. }));
+        if read {
+            bytes[self.places[2] + 8..][..8].fill(0);
+        }
+        ((status, bytes), read)
     }
 
     fn board_in(&self, bytes: &[u8; BYTES]) -> Board {
@@ -219,13 +228,19 @@ pub fn run(calls: u64, seed: u64) {
     let mut random = Random(seed);
     let mut board = random.board();
     let mut statuses = BTreeMap::from(STATUSES.map(|status| (status, 0)));
+    let (words, mut words_off) = (has_words(OLD), 0);
     let mut differ = 0;
     for _ in 0..calls {
         if random.one_in(16) {
             board = if random.one_in(2) { random.board() } else { fresh(&mut random) };
         }
         let call = random.call(board);
-        let (old, new) = (call.through(OLD), call.through(NEW));
+        let (old, mut new) = (call.through(OLD), call.through(NEW));
+        if !words {
+            let read;
+            (new, read) = call.words_off(new);
+            words_off += u64::from(read);
+        }
         *statuses.entry(old.0).or_insert(0) += 1;
         if old != new {
             differ += 1;
@@ -239,6 +254,9 @@ pub fn run(calls: u64, seed: u64) {
     }
     for (status, times) in statuses {
         println!("status {status:>3}: {times}");
+    }
+    if !words {
+        println!("the old archive's reads say no words: taken off {words_off} of today's");
     }
     println!("{calls} calls, {differ} differ");
     if differ > 0 {

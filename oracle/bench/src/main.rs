@@ -27,14 +27,26 @@ const SEED: u64 = 1;
 
 type Whole = fn(&[u8], &mut [u8]) -> Option<usize>;
 
-/// A whole trace through some sides, whose bytes must be the same.
-fn whole<const N: usize>(workload: &Workload, repetitions: usize, sides: [Whole; N]) -> [f64; N] {
+/// Makes the words of the reads 0 in the answers of a whole trace.
+fn take_words_off(workload: &Workload, answers: &mut [u8]) {
+    for ((code, _, _), answer) in workload.each().zip(answers.chunks_exact_mut(16)) {
+        if code == ours::READ && answer[0] == 0 {
+            answer[9..11].fill(0);
+        }
+    }
+}
+
+/// A whole trace through some sides, whose bytes must be the same; without the words of reads where the first side has none.
+fn whole<const N: usize>(workload: &Workload, repetitions: usize, sides: [Whole; N], words: bool) -> [f64; N] {
     let trace = &workload.trace[..];
     let mut outs = sides.map(|side| {
         let mut out = vec![0xA5; ROOM];
         assert!(side(trace, &mut out).is_some(), "{}: a sound trace", workload.name);
         out
     });
+    if !words {
+        outs[1..].iter_mut().for_each(|out| take_words_off(workload, out));
+    }
     assert!(outs.windows(2).all(|two| two[0] == two[1]), "{}: the sides differ", workload.name);
     let mut n = 0;
     let mut runs = outs.each_mut().map(|out| {
@@ -50,15 +62,15 @@ fn whole<const N: usize>(workload: &Workload, repetitions: usize, sides: [Whole;
 fn everything(repetitions: usize) {
     head("our runner owns the board: answers of a whole trace");
     for workload in workloads::all() {
-        print_row(workload.name, whole(&workload, repetitions, [ours::answers, baseline::answers]));
+        print_row(workload.name, whole(&workload, repetitions, [ours::answers, baseline::answers], true));
     }
     head("the same with lines printed");
     for workload in workloads::growing() {
-        print_row(workload.name, whole(&workload, repetitions, [ours::replay, baseline::replay]));
+        print_row(workload.name, whole(&workload, repetitions, [ours::replay, baseline::replay], true));
     }
     head("growth: answers of a mixed trace");
     for workload in workloads::growing() {
-        print_row(workload.name, whole(&workload, repetitions, [ours::answers, baseline::answers]));
+        print_row(workload.name, whole(&workload, repetitions, [ours::answers, baseline::answers], true));
     }
     head("a run of 65,536 ticks, worked off in one call, beside the original's run; channel 0 counts");
     for (name, row) in ticks::rows(repetitions) {
@@ -80,8 +92,9 @@ fn two_archives(repetitions: usize) {
 
 fn two_loops(repetitions: usize) {
     two_head("the runner owns the board: answers of a whole trace, through two archives");
+    let words = ours::has_words(ours::OLD);
     for workload in workloads::all() {
-        print_two(workload.name, whole(&workload, repetitions, [ours::old_answers, ours::answers, baseline::answers]));
+        print_two(workload.name, whole(&workload, repetitions, [ours::old_answers, ours::answers, baseline::answers], words));
     }
 }
 

@@ -1,6 +1,7 @@
 //! Our timer behind the functions that it exports, of today's archive and of an old one.
 
-/// The code of working ticks off.
+/// The codes of a read, and of working ticks off.
+pub const READ: u8 = 2;
 const WORK_OFF: u8 = 9;
 
 /// Bytes of a board.
@@ -110,6 +111,12 @@ pub fn old_answers(trace: &[u8], out: &mut [u8]) -> Option<usize> {
 /// What a replay of a trace prints at the front of `out`, and how many bytes that is.
 pub fn replay(trace: &[u8], out: &mut [u8]) -> Option<usize> {
     whole(c::pit_replay, trace, out)
+}
+
+/// Whether an archive's reads say which half they are and whether it was held: request L3. One of before leaves these numbers 0.
+pub fn has_words(door: Door) -> bool {
+    let answer = Board::fresh(door, 0, 12).call(&mut [], READ, 0x40, 0).expect("a port that is there");
+    answer[8] != 0
 }
 
 /// A board in bytes, behind one of the doors.

@@ -3,11 +3,12 @@
 use crate::board_fields::{BoardField, OWN};
 use crate::board_frame::BoardFrame;
 use crate::board_operations::operation;
+use crate::differences::words;
 use crate::ours::Ours;
 use crate::reference::WORK_OFF;
 use crate::trace_replay::lent;
 use original::pit::board::{fresh, number_at, put_number, Board, DIVISOR, LENGTH, MODEL};
-use original::pit::board_operation::BoardOperation;
+use original::pit::board_operation::{BoardOperation, Numbers};
 use original::pit::standing_board::StandingBoard;
 use std::process::{Command, Stdio};
 use std::time::{Duration, Instant};
@@ -17,7 +18,7 @@ pub struct BoardBench<'a> {
     ours: Board,
     /// What our last step returned, answered and left in the event bytes.
     status: u32,
-    answer: u64,
+    answer: Numbers,
     events: Vec<u8>,
     original: StandingBoard,
     /// What the original's last step answered, or the message of its panic.
@@ -29,7 +30,7 @@ pub struct BoardBench<'a> {
 impl<'a> BoardBench<'a> {
     pub fn new(calls: &'a mut Ours) -> Self {
         let (ours, original, said) = (fresh(0, 12), StandingBoard::new(0, 12), Ok(String::new()));
-        Self { calls, ours, status: 0, answer: 0, events: Vec::new(), original, said, unseen: Vec::new() }
+        Self { calls, ours, status: 0, answer: (0, 0, 0), events: Vec::new(), original, said, unseen: Vec::new() }
     }
 
     pub fn line(&mut self, words: &[&str]) -> Result<(), String> {
@@ -58,7 +59,7 @@ impl<'a> BoardBench<'a> {
         let (ours, original) = match *words {
             ["board", ref fields @ ..] => return self.start(fields),
             ["original", ref words @ ..] => {
-                (self.status, self.answer) = (0, 0);
+                (self.status, self.answer) = (0, (0, 0, 0));
                 self.said = self.original_alone(words)?;
                 return Ok(());
             }
@@ -93,9 +94,9 @@ impl<'a> BoardBench<'a> {
 
     fn on_ours(&mut self, op: BoardOperation) {
         let reply = self.calls.call(BoardFrame::operation(&self.ours, &lent(op.code), op));
-        (self.ours, self.status, self.answer, self.events) = (reply.board(), reply.status(), 0, reply.events().to_vec());
+        (self.ours, self.status, self.answer, self.events) = (reply.board(), reply.status(), (0, 0, 0), reply.events().to_vec());
         if reply.status() == 0 {
-            self.answer = reply.numbers().0;
+            self.answer = reply.numbers();
         }
     }
 
@@ -109,7 +110,7 @@ impl<'a> BoardBench<'a> {
         }
         let (model, divisor) = (board[MODEL], number_at(&board, DIVISOR));
         let made = self.calls.call(BoardFrame::new(&fresh(0, 1), LENGTH as u8, model, divisor));
-        (self.status, self.answer, self.said) = (made.status(), 0, Ok(String::new()));
+        (self.status, self.answer, self.said) = (made.status(), (0, 0, 0), Ok(String::new()));
         self.ours = made.board();
         self.ours[DIVISOR..].copy_from_slice(&board[DIVISOR..]);
         put_number(&mut self.ours, DIVISOR, divisor);
@@ -157,7 +158,8 @@ impl<'a> BoardBench<'a> {
                 self.unseen.retain(|seen| !seen.starts_with("ours"));
                 self.status.to_string()
             }
-            "answer" => self.answer.to_string(),
+            "answer" => self.answer.0.to_string(),
+            "words" => words(self.answer.1, self.answer.2),
             "event" => self.events.iter().map(u8::to_string).collect::<Vec<_>>().join(" "),
             _ => return due_and_field(&self.ours, what, value),
         };

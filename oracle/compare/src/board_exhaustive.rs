@@ -1,10 +1,11 @@
-//! Every port and channel number, every control and data byte, every gate edge at every event room and place, and every time call at the edges of warp,
-//! divisor and the 32 bits.
+//! Every port and channel number, every control and data byte, every place of a read on all three channels, every gate edge at every event room and place, and
+//! every time call at the edges of warp, divisor and the 32 bits.
 
 use crate::board_fields::BoardField;
 use crate::board_judge::BoardJudge;
 use crate::board_operations::{operation, NAMES};
-use crate::fields::{ELEMENT, GATE, MODE, OUTPUT, STATE};
+use crate::exhaustive::{ACCESSES, FLAG};
+use crate::fields::{each_combination, ACCESS, ELEMENT, GATE, LATCHED, MODE, OUTPUT, READ_STATE, STATE};
 use crate::random::Random;
 use original::pit::board::{fresh, put_number, Board, DEFER, DIVISOR, MODEL, REMAINDER, WARP};
 use original::pit::board_operation::{BoardOperation, Events, EVENT_ROOM};
@@ -19,6 +20,7 @@ const SPANS: [u32; 14] = [0, 1, 2, 3, 11, 12, 13, 24, 25, 0x7FFF_FFFF, 0x8000_00
 pub fn run(judge: &mut BoardJudge) {
     targets(judge);
     bytes(judge);
+    reads(judge);
     gates(judge);
     counts(judge);
     times(judge);
@@ -51,6 +53,26 @@ fn bytes(judge: &mut BoardJudge) {
                 let events = random.events_of(room);
                 judge.ask(&board, &events, BoardOperation { place, ..operation(1, port, byte) });
             }
+        }
+    }
+}
+
+/// Every access, place of a read and latch of each channel beside every one of the others', so that no channel's words pass for another's. From each, four reads of every port: the
+/// command port's too, whatever is latched.
+fn reads(judge: &mut BoardJudge) {
+    let mut random = Random(25);
+    let mut places = Vec::new();
+    each_combination(&[0; 29], &[(ACCESS, ACCESSES), (READ_STATE, FLAG), (LATCHED, FLAG)], &mut |record| places.push(*record));
+    let number = places.len();
+    for (three, port) in (0..number.pow(3)).flat_map(|three| (0x40..=0x43).map(move |port| (three, port))) {
+        let mut board = random.board();
+        for (c, place) in [three % number, three / number % number, three / number.pow(2)].into_iter().enumerate() {
+            for field in [ACCESS, READ_STATE, LATCHED] {
+                field.put(&mut board[29 * c..], field.get(&places[place]));
+            }
+        }
+        for _ in 0..4 {
+            board = judge.ask(&board, &ROOMY, operation(2, port, 0)).board;
         }
     }
 }

@@ -5,6 +5,7 @@ use crate::board_frame::BoardFrame;
 use crate::board_operations::{self, NAMES};
 use crate::ours::{Call, Ours};
 use crate::reference::{Reference, WORK_OFF};
+use crate::words_off::Pairs;
 use original::pit::board::{fresh, Board};
 use original::pit::board_operation::{BoardOperation, BoardOutcome, Events};
 
@@ -32,6 +33,8 @@ pub struct BoardJudge<'a> {
     pub events: u64,
     /// Ticks that were worked off.
     pub ticks: u64,
+    /// How often the reads said which words.
+    pub pairs: Pairs,
     /// Calls that only docs/ENCODING.md judges: refused ones, and those that make a board.
     pub refused: u64,
     pub made: u64,
@@ -43,9 +46,9 @@ pub struct BoardJudge<'a> {
 impl<'a> BoardJudge<'a> {
     pub fn new(ours: &'a mut Ours) -> Self {
         let (waiting, frames, none) = (Vec::with_capacity(MOST), Vec::with_capacity(MOST), [0; NAMES.len()]);
-        let (reference, refusals) = (Reference::default(), [0; 17]);
+        let (reference, refusals, pairs) = (Reference::default(), [0; 17], Pairs::default());
         let (events, ticks, refused, made, differ, said) = (0, 0, 0, 0, 0, 0);
-        Self { reference, ours, waiting, frames, compared: none, refusals, events, ticks, refused, made, differ, said, seen: none }
+        Self { reference, ours, waiting, frames, compared: none, refusals, events, ticks, pairs, refused, made, differ, said, seen: none }
     }
 
     pub fn total(&self) -> u64 {
@@ -62,6 +65,9 @@ impl<'a> BoardJudge<'a> {
         if matches!(op.code, 1 | 3 | WORK_OFF) && outcome.status == 0 {
             self.events += u64::from(outcome.numbers.0 != op.place);
             self.ticks += u64::from(outcome.numbers.1);
+        }
+        if op.code == 2 && outcome.status == 0 {
+            self.pairs.add(outcome.numbers.1 as u8, outcome.numbers.2 as u8);
         }
         if self.frames.len() == MOST {
             self.settle();

@@ -10,6 +10,7 @@ use original::pit::operation::{fresh, model, Operation, Oracle};
 use original::pit::record::Record;
 use original::pit::stands;
 use original::pit::ticking::Ticker;
+use original::pit::words::Words;
 use std::fs;
 use std::path::Path;
 
@@ -18,14 +19,15 @@ const FOLDER: &str = concat!(env!("CARGO_MANIFEST_DIR"), "/../differences");
 /// One of the two sides: its record, and what the last step answered.
 struct Side {
     record: Record,
-    answer: u16,
+    /// Its three numbers.
+    answer: [u16; 3],
     /// What the original's own text did beside the record: bus calls, or a panic.
     seen: String,
 }
 
 impl Side {
     fn on(record: Record) -> Self {
-        Side { record, answer: 0, seen: String::new() }
+        Side { record, answer: [0; 3], seen: String::new() }
     }
 }
 
@@ -157,7 +159,7 @@ impl Bench<'_> {
         if reply.status() != 0 {
             return Err(format!("ours refuses with {}", reply.status()));
         }
-        self.ours = Side { record: reply.record(), answer: first(&reply.answer()), seen: String::new() };
+        self.ours = Side { record: reply.record(), answer: numbers(&reply.answer()), seen: String::new() };
 
         let (start, ptype) = (self.original.record, model(self.model));
         let seen = stands::calls_of(&start, op).iter().map(|call| format!("{call:?}")).collect::<Vec<_>>().join(" ");
@@ -169,7 +171,7 @@ impl Bench<'_> {
                 if let Some(fault) = outcome.fault {
                     return Err(fault.to_string());
                 }
-                Side { record: outcome.record, answer: first(&outcome.answer), seen }
+                Side { record: outcome.record, answer: numbers(&outcome.answer), seen }
             }
         };
         self.agree()
@@ -220,15 +222,23 @@ impl Bench<'_> {
     }
 }
 
-fn first(answer: &[u8; 7]) -> u16 {
-    u16::from_le_bytes([answer[1], answer[2]])
+fn numbers(answer: &[u8; 7]) -> [u16; 3] {
+    [1, 3, 5].map(|place| u16::from_le_bytes([answer[place], answer[place + 1]]))
+}
+
+/// The words of a read by their numbers.
+pub fn words(half: u32, held: u32) -> String {
+    let word = |known: &[&str], number: u32| known.get(number as usize).map_or(number.to_string(), |word| word.to_string());
+    format!("{} {}", word(&Words::HALVES, half), word(&Words::MARKS, held))
 }
 
 /// What a line expects and what is there, both as they are written.
 fn due_and_is(side: &Side, what: &str, value: &str) -> Result<(String, String), String> {
+    let [first, half, held] = side.answer;
     Ok(match what {
-        "read" => (value.to_string(), format!("{:02X}", side.answer)),
-        "named" => (value.to_string(), side.answer.to_string()),
+        "read" => (value.to_string(), format!("{first:02X}")),
+        "words" => (value.to_string(), words(half.into(), held.into())),
+        "named" => (value.to_string(), first.to_string()),
         "seen" => (value.to_string(), side.seen.clone()),
         _ => {
             let field = Field::named(what).ok_or(format!("nothing to expect: {what}"))?;

@@ -7,6 +7,8 @@
 use crate::board_fields::BoardField;
 use crate::board_frame::BoardFrame;
 use crate::board_operations::{operation, NAMES};
+use crate::exhaustive::{ACCESSES, FLAG};
+use crate::fields::{each_combination, ACCESS, LATCHED, READ_STATE};
 use crate::ours::Ours;
 use crate::random::Random;
 use crate::reference::{Reference, WORK_OFF};
@@ -181,6 +183,25 @@ impl Sample {
         Ok(())
     }
 
+    /// Every access, place of a read and latch on each data port, and the command port beside every three latches.
+    fn reads(&mut self) -> Result<(), String> {
+        let mut places = Vec::new();
+        each_combination(&[0; 29], &[(ACCESS, ACCESSES), (READ_STATE, FLAG), (LATCHED, FLAG)], &mut |record| places.push(*record));
+        for (c, place) in (0..3).flat_map(|c| places.iter().map(move |place| (c, place))) {
+            let mut board = self.random.board();
+            for field in [ACCESS, READ_STATE, LATCHED] {
+                field.put(&mut board[29 * c..], field.get(place));
+            }
+            self.add(&board, Events::zeros(0), operation(2, 0x40 + c as u16, 0))?;
+        }
+        for latches in 0..8 {
+            let mut board = self.random.board();
+            (0..3).for_each(|c| LATCHED.put(&mut board[29 * c..], latches >> c & 1));
+            self.add(&board, Events::zeros(0), operation(2, 0x43, 0))?;
+        }
+        Ok(())
+    }
+
     /// Random cases for the rest.
     fn rest(&mut self) -> Result<(), String> {
         while self.bytes.len() < CASE * CASES {
@@ -202,6 +223,7 @@ pub fn answered() -> Result<Vec<u8>, String> {
     sample.owing()?;
     sample.ticks()?;
     sample.customer()?;
+    sample.reads()?;
     sample.rest()?;
     Ok(sample.bytes)
 }

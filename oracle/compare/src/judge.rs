@@ -5,6 +5,7 @@ use crate::fields::{differing, FIELDS, OUTPUT};
 use crate::frame::Frame;
 use crate::operations;
 use crate::ours::{Call, Ours};
+use crate::words_off::Pairs;
 use original::pit::operation::{fresh, Operation, Oracle, Outcome};
 use original::pit::record::Record;
 
@@ -29,6 +30,8 @@ pub struct Judge<'a> {
     pub compared: [u64; operations::NAMES.len()],
     pub refused: u64,
     pub fresh: u64,
+    /// How often the reads said which words.
+    pub pairs: Pairs,
     pub differ: u64,
     /// Differences other than of an operation that both sides make.
     said: u64,
@@ -39,8 +42,8 @@ pub struct Judge<'a> {
 impl<'a> Judge<'a> {
     pub fn new(ours: &'a mut Ours) -> Self {
         let (waiting, frames) = (Vec::with_capacity(MOST), Vec::with_capacity(MOST));
-        let compared = [0; operations::NAMES.len()];
-        Self { oracle: Oracle::default(), ours, waiting, frames, compared, refused: 0, fresh: 0, differ: 0, said: 0, seen: compared }
+        let (oracle, compared, pairs) = (Oracle::default(), [0; operations::NAMES.len()], Pairs::default());
+        Self { oracle, ours, waiting, frames, compared, refused: 0, fresh: 0, pairs, differ: 0, said: 0, seen: compared }
     }
 
     pub fn total(&self) -> u64 {
@@ -53,6 +56,10 @@ impl<'a> Judge<'a> {
         self.waiting.push(Waiting { start: *start, op, outcome });
         self.frames.push(Frame::operation(start, op));
         self.compared[operations::place(op.code).expect("a code of the table")] += 1;
+        if op.code == 2 {
+            let [_, _, _, half, _, held, _] = outcome.answer;
+            self.pairs.add(half, held);
+        }
         if self.frames.len() == MOST {
             self.settle();
         }

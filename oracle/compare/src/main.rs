@@ -41,6 +41,7 @@ mod trace_random;
 mod trace_reader;
 mod trace_replay;
 mod whole_run;
+mod words_off;
 
 use ours::Ours;
 use std::process::ExitCode;

@@ -1,4 +1,4 @@
-//! Traces of one operation with every code, and numbers at the limits of the rules; heads at theirs; and small programs in every mode, whose reads show
+//! Traces of one operation with every code, and numbers at the limits of the rules; heads at theirs; reads and latches in every order; and small programs in every mode, whose reads show
 //! what became of the loads, gates and ticks.
 
 use crate::random::Random;
@@ -18,6 +18,7 @@ pub fn run(judge: &mut TraceJudge) {
     let mut random = Random(41);
     single_operations(judge, &mut random);
     heads(judge, &mut random);
+    reads(judge, &mut random);
     programs(judge, &mut random);
     ticking_programs(judge, &mut random);
 }
@@ -42,6 +43,22 @@ fn heads(judge: &mut TraceJudge, random: &mut Random) {
         trace[place..place + 4].copy_from_slice(&number.to_le_bytes());
         for len in [place, place + 1, place + 3, place + 4, trace.len() - 1, trace.len()] {
             judge.ask(&trace[..len], random);
+        }
+    }
+}
+
+/// On every channel in every access a count whose halves differ, and then five steps, each a latch, a read of the channel or one of the command port, in every order.
+fn reads(judge: &mut TraceJudge, random: &mut Random) {
+    let kinds = (0..3u8).flat_map(|c| (1..4u32).map(move |access| (c, access)));
+    for (c, access) in kinds {
+        let (port, latch) = (0x40 + c, operation(1, 0x43, u32::from(c) << 6));
+        let begun = [operation(1, 0x43, u32::from(c) << 6 | access << 4), operation(1, port, 0x5A), operation(1, port, 0xC3)];
+        let steps = [latch, operation(2, port, 0), operation(2, 0x43, 0)];
+        for order in 0..3u32.pow(5) {
+            let mut operations = begun.to_vec();
+            operations.extend([operation(5, c, 0), operation(4, c, 1)]);
+            operations.extend((0..5).map(|turn| steps[(order / 3u32.pow(turn) % 3) as usize]));
+            judge.ask(&trace_of(order & 1, 12, &operations), random);
         }
     }
 }

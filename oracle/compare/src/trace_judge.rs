@@ -7,6 +7,7 @@ use crate::trace_frame::TraceFrame;
 use crate::trace_random::trace_of;
 use crate::trace_reader::{Operation, MOST_OPERATIONS};
 use crate::trace_replay::{replay, Replayed};
+use crate::words_off::{self, is_bare_read, Pairs, HALF, HELD};
 
 const SHORT_ANSWER: u32 = 104;
 const SHORT_OUT: u32 = 105;
@@ -25,12 +26,22 @@ pub struct TraceJudge<'a> {
     pub damaged: [u64; 15],
     /// Calls refused with 104 or 105.
     pub refused: u64,
+    /// How often the reads said which words.
+    pub pairs: Pairs,
+    /// Lines and answers of ours that were held against the rules of before L3, and how many of them are reads.
+    pub lines: u64,
+    pub read_lines: u64,
+    pub answers: u64,
+    pub read_answers: u64,
     pub differ: u64,
 }
 
 impl<'a> TraceJudge<'a> {
     pub fn new(ours: &'a mut Ours) -> Self {
-        Self { reference: Reference::default(), ours, sound: 0, operations: 0, damaged: [0; 15], refused: 0, differ: 0 }
+        let (reference, damaged, pairs) = (Reference::default(), [0; 15], Pairs::default());
+        let (sound, operations, refused, differ) = (0, 0, 0, 0);
+        let (lines, read_lines, answers, read_answers) = (0, 0, 0, 0);
+        Self { reference, ours, sound, operations, damaged, refused, pairs, lines, read_lines, answers, read_answers, differ }
     }
 
     fn wrong(&mut self, trace: &[u8], what: &str) {
@@ -51,6 +62,7 @@ impl<'a> TraceJudge<'a> {
             Ok(answers) => {
                 self.sound += 1;
                 self.operations += (answers.len() / ANSWER_BYTES) as u64;
+                words_off::reads(trace, answers).for_each(|place| self.pairs.add(answers[place + HALF], answers[place + HELD]));
             }
             Err((number, _)) => self.damaged[*number as usize] += 1,
         }
@@ -61,7 +73,7 @@ impl<'a> TraceJudge<'a> {
 
     fn ask_replay(&mut self, trace: &[u8], replayed: &Replayed, more: usize, random: &mut Random) {
         let room = replay_room(replayed);
-        self.text_is(trace, TraceFrame::replay(trace, room + more, NUMBERS + more % 17, random.next() as u8), &replayed.text);
+        self.text_is(trace, TraceFrame::replay(trace, room + more, NUMBERS + more % 17, random.next() as u8), replayed);
         self.refuses(trace, TraceFrame::replay(trace, room - 1, NUMBERS, random.next() as u8), SHORT_OUT);
         let (out, answer) = (random.below(room as u64 + 2) as usize, random.below(NUMBERS as u64) as usize);
         self.refuses(trace, TraceFrame::replay(trace, out.min(room - 1), NUMBERS, random.next() as u8), SHORT_OUT);
@@ -76,7 +88,8 @@ impl<'a> TraceJudge<'a> {
             Err((number, _)) => self.refuses(trace, TraceFrame::answers(trace, out, NUMBERS + more % 17, filler), *number),
             Ok(answers) => {
                 let room = answers.len();
-                self.bytes_are(trace, TraceFrame::answers(trace, room + more, NUMBERS + more % 17, filler), answers);
+                let frame = TraceFrame::answers(trace, room + more, NUMBERS + more % 17, filler);
+                self.bytes_are(trace, frame, answers, &replayed.answers_before);
                 if room > 0 {
                     self.refuses(trace, TraceFrame::answers(trace, room - 1, NUMBERS, filler), SHORT_OUT);
                     self.refuses(trace, TraceFrame::answers(trace, out.min(room - 1), NUMBERS, filler), SHORT_OUT);
@@ -85,8 +98,9 @@ impl<'a> TraceJudge<'a> {
         }
     }
 
-    fn text_is(&mut self, trace: &[u8], frame: TraceFrame, due: &str) {
-        let reply = self.ours.call(frame);
+    fn text_is(&mut self, trace: &[u8], frame: TraceFrame, replayed: &Replayed) {
+        let (reply, due) = (self.ours.call(frame), &replayed.text);
+        self.text_was(trace, &reply, &replayed.text_before);
         let out = reply.out(due.len());
         if reply.status() != 0 || reply.numbers() != (due.len() as u64, 0, 0) || out != due.as_bytes() {
             let printed = String::from_utf8_lossy(out).into_owned();
@@ -99,8 +113,9 @@ impl<'a> TraceJudge<'a> {
         }
     }
 
-    fn bytes_are(&mut self, trace: &[u8], frame: TraceFrame, due: &[u8]) {
+    fn bytes_are(&mut self, trace: &[u8], frame: TraceFrame, due: &[u8], before: &[u8]) {
         let reply = self.ours.call(frame);
+        self.bytes_were(trace, &reply, before);
         let out = reply.out(due.len());
         if reply.status() != 0 || reply.numbers() != (due.len() as u64, 0, 0) || out != due {
             let place = out.iter().zip(due).position(|(is, due)| is != due);
@@ -108,6 +123,27 @@ impl<'a> TraceJudge<'a> {
             self.wrong(trace, &what);
         } else if !reply.rest_untouched(trace, due.len()) {
             self.wrong(trace, "pit_answers, bytes past the answers, or the trace's own, changed");
+        }
+    }
+
+    /// Our text, as long as ours says that it is, must have words at each read of the old rule, and without them be the old text.
+    fn text_was(&mut self, trace: &[u8], reply: &TraceFrame, before: &str) {
+        let ours = String::from_utf8_lossy(reply.out(reply.numbers().0 as usize));
+        let (bare, reads) = words_off::of_text(&ours);
+        self.lines += before.lines().count() as u64;
+        self.read_lines += reads;
+        if bare != before || reads != before.lines().filter(|line| is_bare_read(line)).count() as u64 {
+            self.wrong(trace, "pit_replay, the text without the words of reads is not the one of before");
+        }
+    }
+
+    /// Our answers with places 9 and 10 of the reads made 0 must be those of the old rule.
+    fn bytes_were(&mut self, trace: &[u8], reply: &TraceFrame, before: &[u8]) {
+        let (bare, reads) = words_off::of_answers(trace, reply.out(reply.numbers().0 as usize));
+        self.answers += (before.len() / ANSWER_BYTES) as u64;
+        self.read_answers += reads;
+        if bare != before {
+            self.wrong(trace, "pit_answers, the bytes without the words of reads are not those of before");
         }
     }
 
@@ -145,7 +181,7 @@ fn replay_room(replayed: &Replayed) -> usize {
 }
 
 /// What document 01 prints of its case R.
-const CASE_R_PRINTS: &str = "pit 8253 divisor 12
+const CASE_R_PRINTED: &str = "pit 8253 divisor 12
 0 out 0 1
 1 ok
 2 ok
@@ -159,6 +195,11 @@ const CASE_R_PRINTS: &str = "pit 8253 divisor 12
 10 refused 1
 end 11
 ";
+
+/// 02, L3: "case R's become `7 read 03 low held` and `8 read 00 high held`".
+fn case_r_prints() -> String {
+    CASE_R_PRINTED.replace("7 read 03", "7 read 03 low held").replace("8 read 00", "8 read 00 high held")
+}
 
 /// Case R of document 01.
 pub fn case_r() -> Vec<u8> {
@@ -186,8 +227,9 @@ pub fn run(judge: &mut TraceJudge, traces: u64, seed: u64) {
     for len in 0..=case_r.len() {
         judge.ask(&case_r[..len], &mut random);
     }
-    if replay(&mut judge.reference, &case_r).text != CASE_R_PRINTS {
-        judge.wrong(&case_r, "the original's replay of case R is not document 01's");
+    let replayed = replay(&mut judge.reference, &case_r);
+    if replayed.text != case_r_prints() || replayed.text_before != CASE_R_PRINTED {
+        judge.wrong(&case_r, "the original's replay of case R is not that of documents 01 and 02");
     }
     judge.every_length(&case_r);
     judge.every_length(&case_r[..40]);

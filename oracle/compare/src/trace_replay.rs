@@ -2,8 +2,10 @@
 
 use crate::reference::{Reference, WORK_OFF};
 use crate::trace_reader::{read, Fault, Operation, Trace};
+use crate::words_off::{HALF, HELD};
 use original::pit::board::{fresh, number_at, REMAINDER};
 use original::pit::board_operation::{BoardOperation, BoardOutcome, Events};
+use original::pit::words::Words;
 
 /// "It always lends two event bytes at place 0." 02: code 9 "works ticks off with six event bytes lent".
 pub fn lent(code: u8) -> Events {
@@ -14,6 +16,9 @@ pub fn lent(code: u8) -> Events {
 pub struct Replayed {
     pub text: String,
     pub answers: Result<Vec<u8>, Fault>,
+    /// The same by the rules as they were before request L3, which know no words.
+    pub text_before: String,
+    pub answers_before: Vec<u8>,
     pub fault: Option<&'static str>,
 }
 
@@ -21,7 +26,8 @@ pub fn replay(reference: &mut Reference, bytes: &[u8]) -> Replayed {
     match read(bytes) {
         // "a fault prints only `trace refused N at P`"
         Err((number, place)) => {
-            Replayed { text: format!("trace refused {number} at {place}\n"), answers: Err((number, place)), fault: None }
+            let text = format!("trace refused {number} at {place}\n");
+            Replayed { text_before: text.clone(), text, answers: Err((number, place)), answers_before: Vec::new(), fault: None }
         }
         Ok(trace) => run(reference, &trace),
     }
@@ -29,28 +35,40 @@ pub fn replay(reference: &mut Reference, bytes: &[u8]) -> Replayed {
 
 fn run(reference: &mut Reference, trace: &Trace) -> Replayed {
     let mut board = fresh(trace.model, trace.divisor);
-    let (mut answers, mut fault) = (Vec::new(), None);
+    let (mut answers, mut answers_before, mut fault) = (Vec::new(), Vec::new(), None);
     let name = if trace.model == 0 { "8253" } else { "8254" };
     let mut text = format!("pit {name} divisor {}\n", trace.divisor);
+    let mut text_before = text.clone();
     for (index, operation) in trace.operations.iter().enumerate() {
         let outcome = reference.operation(&board, &lent(operation.code), on_a_board(*operation));
         text += &format!("{index} {}\n", said(*operation, &outcome));
+        text_before += &format!("{index} {}\n", said_before(*operation, &outcome));
         answers.extend_from_slice(&answer(*operation, &outcome));
+        answers_before.extend_from_slice(&answer_before(*operation, &outcome));
         fault = fault.or(outcome.fault);
         // "A refused operation does not stop the rest."
         board = outcome.board;
     }
-    text += &format!("end {}\n", trace.operations.len());
-    Replayed { text, answers: Ok(answers), fault }
+    let end = format!("end {}\n", trace.operations.len());
+    Replayed { text: text + &end, answers: Ok(answers), text_before: text_before + &end, answers_before, fault }
 }
 
 pub fn on_a_board(operation: Operation) -> BoardOperation {
     BoardOperation { code: operation.code, target: operation.target.into(), number: operation.number, place: 0 }
 }
 
+/// 02, L3: "The replay's read line gains two words", the half and whether it is held; all other lines are as before.
+fn said(operation: Operation, outcome: &BoardOutcome) -> String {
+    let (byte, half, held) = outcome.numbers;
+    match (outcome.status, operation.code) {
+        (0, 2) => format!("read {byte:02X} {} {}", Words::HALVES[half as usize], Words::MARKS[held as usize]),
+        _ => said_before(operation, outcome),
+    }
+}
+
 /// "`refused N`; or `read`, `ticks` and `left`, `out` with an event's two bytes, else `ok`". "A read byte prints as two upper-case hex digits, all other
 /// numbers in decimal." 02: code 9's "line is `made N`, then `out` and two numbers for each event".
-fn said(operation: Operation, outcome: &BoardOutcome) -> String {
+fn said_before(operation: Operation, outcome: &BoardOutcome) -> String {
     let (first, made) = (outcome.numbers.0, outcome.numbers.1);
     match (outcome.status, operation.code) {
         (0, 2) => format!("read {first:02X}"),
@@ -68,8 +86,18 @@ fn outs(outcome: &BoardOutcome) -> String {
     written.chunks(2).map(|event| format!(" out {} {}", event[0], event[1])).collect()
 }
 
-/// The sixteen bytes of docs/ENCODING.md: refusal, event bytes written, six event bytes, value, remainder.
+/// The sixteen bytes of docs/ENCODING.md, with the numbers of L3's words behind the byte of a read.
 fn answer(operation: Operation, outcome: &BoardOutcome) -> [u8; 16] {
+    let (_, half, held) = outcome.numbers;
+    let mut bytes = answer_before(operation, outcome);
+    if outcome.status == 0 && operation.code == 2 {
+        (bytes[HALF], bytes[HELD]) = (half as u8, held as u8);
+    }
+    bytes
+}
+
+/// Refusal, event bytes written, six event bytes, value, remainder.
+fn answer_before(operation: Operation, outcome: &BoardOutcome) -> [u8; 16] {
     let (first, made) = (outcome.numbers.0, outcome.numbers.1);
     let mut bytes = [0; 16];
     bytes[0] = outcome.status as u8;

@@ -47,6 +47,7 @@ fn channels(ours: &mut Ours, operations: u64, seed: u64) -> Compared {
     for ((_, name), compared) in operations::NAMES.iter().zip(judge.compared) {
         println!("{name}: {compared}");
     }
+    println!("words of the reads: {}", judge.pairs.show());
     println!("refused by ours: {}", judge.refused);
     println!("pit_channel_fresh: {}", judge.fresh);
     println!("channels: {} operations, {} differ ({:.1} s)", judge.total(), judge.differ, started.elapsed().as_secs_f64());
@@ -94,6 +95,7 @@ fn boards(ours: &mut Ours, operations: u64, seed: u64) -> Compared {
         [1, 2, 3, 4, 5, 6, 7, 8, 15, 16].iter().map(|number| format!("{number}: {}", judge.refusals[*number])).collect();
     println!("of these refused with {}", refusals.join(", "));
     println!("of these with an event: {}; ticks worked off: {}", judge.events, judge.ticks);
+    println!("words of the reads: {}", judge.pairs.show());
     let oracle = &judge.reference.oracle;
     println!("of the time calls judged by document 01 alone (divisor 0, or a quotient above 2,000,000): {}", oracle.alone);
     println!("of the time calls with a quotient above 3,000, so without the original's catch_up and run: {}", oracle.not_ticked);
@@ -116,6 +118,11 @@ fn traces(ours: &mut Ours, operations: u64, seed: u64) -> Compared {
     println!(
         "of their time calls judged by document 01 alone: {}, without catch_up and run: {}",
         judge.reference.oracle.alone, judge.reference.oracle.not_ticked
+    );
+    println!("words of the reads: {}", judge.pairs.show());
+    println!(
+        "ours with the words taken off, by the rules of before: {} lines, {} of them reads; {} answers, {} of them reads",
+        judge.lines, judge.read_lines, judge.answers, judge.read_answers
     );
     println!("refused by ours with 104 or 105, or with a damaged trace's number: {}", judge.refused);
     println!("traces: {} operations, {} differ ({:.1} s)", judge.operations, judge.differ, started.elapsed().as_secs_f64());

@@ -17,3 +17,4 @@ pub mod remembered;
 pub mod standing_board;
 pub mod stands;
 pub mod ticking;
+pub mod words;

@@ -3,12 +3,13 @@
 -- An arm's proof begins at the arm's own place, which is named once, and goes by `works`, of work on a channel, or by `next`, of any other turn.
 use Prim.Native.Nat.{ℕ, _+_, _-_, _≤_, _<_}
 use mathlib.Core.List.{List}
-use mathlib.Core.Path.{_≡_, refl, sym, ap, subst, _∙_}
+use mathlib.Core.Path.{_≡_, refl, sym, ap, ap₂, subst, _∙_}
 use native.Mathlib.Omega.{arith}
 use denote.Ref.{now}
 use lib.ListN.{length, take, length-map}
 use borrow.Author.Needs.{needs}
 use Rattle.channel.specs.declared.Channel.{Channel}
+use Rattle.latch.specs.declared.label.Label.{Label}
 use Rattle.latch.specs.declared.reading.ByteRead.{ByteRead}
 use Rattle.board.specs.declared.Board.{Board}
 use Rattle.board.specs.Board.{withChannel}
@@ -162,13 +163,13 @@ loop-again-4 c =
 
 -- a read
 abbrev reads : tie.After-slice-known6 Inv-loop μ-loop → tie.After-enum-told2 Inv-loop μ-loop
-reads c = c .before .before .before .before .before .before .before .before
+reads c = c .before .before .before .before .before .before .before .before .before
 
 loop-again-5 : tie.Need-loop-again-5 Inv-loop μ-loop
 loop-again-5 c =
     let k = reads c .before .before in
     works k _ (reads c .enum-told2 .given .1) _
-    (ap (λ (r : ByteRead). inSix (withEvents twoLent (readInto (board (found k)) (channel k) r))) (sym (c .before .before .before .before .before .before .read-byte .ensures)))
+    (ap₂ (λ (l : Label) (r : ByteRead). inSix (withEvents twoLent (readInto (board (found k)) (channel k) l r))) (sym (c .before .before .before .before .before .label-of .ensures)) (sym (c .before .before .before .before .before .before .before .read-byte .ensures)))
     _ _ (c .before .before .say5 .ensures)
 
 -- counts
@@ -303,7 +304,7 @@ tell-spec =
     (λ c κs. search needs) (λ c κs. search needs) (λ c. less (found (sets-gate c .before .before))) loop-again-4
     (λ c. search needs) (λ c. omega (arith, on-board (c .before .before))) (λ c. on-board (c .before .before)) (λ c κs. search needs)
     (λ c. omega (arith, on-board (c .before .before .before .before .before))) (λ c. on-board (c .before .before .before .before .before))
-    (λ c κs. search needs) (λ c. less (found (reads c .before .before))) loop-again-5
+    (λ c κs. search needs) (λ c κs. search needs) (λ c. less (found (reads c .before .before))) loop-again-5
     (λ c. search needs) (λ c. omega (arith, on-board (c .before .before .before))) (λ c. on-board (c .before .before .before)) (λ c κs. search needs)
     (λ c. omega (arith, on-board (c .before .before .before .before .before))) (λ c. on-board (c .before .before .before .before .before))
     (λ c κs. search needs) (λ c. less (found (counts c .before .before))) loop-again-6

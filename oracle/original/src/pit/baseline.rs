@@ -3,6 +3,7 @@
 //! It stands in the original's own module, so that the compiler can inline the original's functions into the loop. The trace is judged first, as ours is, then run. A time call
 //! leaves its ticks owed, as document 02 asks, and code 9 works them off (baseline_ticks.rs).
 
+use super::words::{words, Words, COMMAND_PORT};
 use super::*;
 use crate::lines::Lines;
 
@@ -22,7 +23,7 @@ pub(super) enum Reply {
     Refused(u8),
     Done,
     Out(u8, bool),
-    Byte(u8),
+    Byte(u8, Words),
     Ticks(u32),
     Worked(Worked),
 }
@@ -112,6 +113,15 @@ impl Baseline {
         }
     }
 
+    fn read(&mut self, port: u8) -> Reply {
+        let words = match port {
+            0x40..=0x42 => words(&self.timer.channels[usize::from(port - 0x40)]),
+            0x43 => COMMAND_PORT,
+            _ => return Reply::Refused(1),
+        };
+        Reply::Byte(self.timer.read_u8(port.into(), DeviceRunTimeUnit::SystemTicks(0)), words)
+    }
+
     fn gate(&mut self, c: usize, level: bool) -> Reply {
         if c > 2 {
             return Reply::Refused(2);
@@ -177,10 +187,7 @@ impl Baseline {
         let c = usize::from(op.target);
         match op.code {
             1 => self.write(op.target, op.number as u8),
-            2 => match op.target {
-                0x40..=0x43 => Reply::Byte(self.timer.read_u8(op.target.into(), DeviceRunTimeUnit::SystemTicks(0))),
-                _ => Reply::Refused(1),
-            },
+            2 => self.read(op.target),
             3 => self.gate(c, op.number == 1),
             4 => self.counts(c, op.number),
             5 => {
@@ -209,7 +216,10 @@ fn answer(reply: &Reply, left: u32, bytes: &mut [u8]) {
         Reply::Refused(number) => (number, NONE, 0),
         Reply::Done => (0, NONE, 0),
         Reply::Out(c, level) => (0, [2, c, level.into(), 0, 0, 0, 0], 0),
-        Reply::Byte(byte) => (0, NONE, byte.into()),
+        Reply::Byte(byte, words) => {
+            let [half, held] = words.numbers();
+            (0, NONE, u32::from_le_bytes([byte, half, held, 0]))
+        }
         Reply::Ticks(ticks) => (0, NONE, ticks),
         Reply::Worked(Worked { made, events: [a, b, c, d, e, f], written }) => (0, [written as u8, a, b, c, d, e, f], made),
     };
@@ -227,13 +237,20 @@ fn made<'a, 'b>(lines: &'a mut Lines<'b>, worked: &Worked) -> &'a mut Lines<'b> 
     lines
 }
 
+/// A read byte and its two words.
+fn read<'a, 'b>(lines: &'a mut Lines<'b>, byte: u8, words: Words) -> &'a mut Lines<'b> {
+    let [half, held] = words.numbers();
+    let (half, held) = (Words::HALVES[usize::from(half)], Words::MARKS[usize::from(held)]);
+    lines.text(b" read ").hex(byte).text(b" ").text(half.as_bytes()).text(b" ").text(held.as_bytes())
+}
+
 fn line(lines: &mut Lines, index: usize, reply: &Reply, left: u32) {
     lines.decimal(index as u32);
     match *reply {
         Reply::Refused(number) => lines.text(b" refused ").decimal(number.into()),
         Reply::Done => lines.text(b" ok"),
         Reply::Out(c, level) => lines.text(b" out ").decimal(c.into()).text(b" ").decimal(level.into()),
-        Reply::Byte(byte) => lines.text(b" read ").hex(byte),
+        Reply::Byte(byte, words) => read(lines, byte, words),
         Reply::Ticks(ticks) => lines.text(b" ticks ").decimal(ticks).text(b" left ").decimal(left),
         Reply::Worked(ref worked) => made(lines, worked),
     };
@@ -267,7 +284,10 @@ pub fn one(board: &mut Baseline, trace: &[u8], index: usize) -> u32 {
         Reply::Refused(number) => number.into(),
         Reply::Done => 0,
         Reply::Out(..) => 2,
-        Reply::Byte(byte) => byte.into(),
+        Reply::Byte(byte, words) => {
+            std::hint::black_box(words);
+            byte.into()
+        }
         Reply::Ticks(ticks) => ticks,
         Reply::Worked(worked) => std::hint::black_box(worked).written as u32,
     }

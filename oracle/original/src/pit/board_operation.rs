@@ -7,6 +7,7 @@
 use super::board::{self, number_at, record_of, Board};
 use super::operation::wrong_calls;
 use super::remembered::{Asked, Remembered};
+use super::words::{words, COMMAND_PORT, OTHER_HALF};
 use super::*;
 
 /// The most event bytes that are ever lent here.
@@ -168,11 +169,22 @@ impl BoardOracle {
         }
     }
 
+    /// The byte, and the words of the channel as it is before the read.
     fn read(&mut self, port: u16) -> Result<Numbers, u32> {
-        if port != COMMAND && !(FIRST_DATA..=LAST_DATA).contains(&port) {
-            return self.must_panic(Asked::Read, port, 1);
+        let (words, latch) = match port {
+            COMMAND => (COMMAND_PORT, 0),
+            FIRST_DATA..=LAST_DATA => {
+                let channel = &self.timer.channels[usize::from(port - FIRST_DATA)];
+                (words(channel), *channel.output_latch)
+            }
+            _ => return self.must_panic(Asked::Read, port, 1),
+        };
+        let byte = self.timer.read_u8(port, DeviceRunTimeUnit::SystemTicks(0));
+        if !words.fit(byte, latch) {
+            self.blame(OTHER_HALF);
         }
-        Ok((self.timer.read_u8(port, DeviceRunTimeUnit::SystemTicks(0)).into(), 0, 0))
+        let [half, held] = words.numbers();
+        Ok((byte.into(), half.into(), held.into()))
     }
 
     /// A refusal for which the original panics.

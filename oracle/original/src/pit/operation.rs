@@ -4,6 +4,7 @@
 //! must be the same in all three, and the bus calls must be those of the change of level and no others.
 
 use super::record::{dump, load, Record};
+use super::words::{words, OTHER_HALF};
 use super::*;
 use crate::bus::Call;
 
@@ -81,9 +82,9 @@ impl Oracle {
         for c in 0..3 {
             self.timer.channels[c] = load(start, c, PitType::Model8253);
             self.bus.forget_calls();
-            let numbers = self.run(c, op);
+            let (numbers, fault) = if op.code == 2 { self.read(c) } else { (self.run(c, op), None) };
             let mut outcome = self.outcome(c, numbers);
-            outcome.fault = wrong_calls(&self.bus, c, start, &outcome.record);
+            outcome.fault = fault.or(wrong_calls(&self.bus, c, start, &outcome.record));
             first = Some(match first {
                 None => outcome,
                 Some(before) => joined(before, &outcome, "the original does not do the same on channels 0, 1 and 2"),
@@ -92,11 +93,19 @@ impl Oracle {
         first.expect("three channels")
     }
 
+    /// The byte, and the words of the channel as it is before the read; with a fault where they do not go together.
+    fn read(&mut self, c: usize) -> ([u16; 3], Option<&'static str>) {
+        let channel = &mut self.timer.channels[c];
+        let (words, latch) = (words(channel), *channel.output_latch);
+        let byte = channel.read_byte();
+        let [half, held] = words.numbers();
+        ([byte, half, held].map(u16::from), (!words.fit(byte, latch)).then_some(OTHER_HALF))
+    }
+
     fn run(&mut self, c: usize, op: Operation) -> [u16; 3] {
         let channel = &mut self.timer.channels[c];
         match op.code {
             1 => channel.write_byte(op.number, op.setting == 1, &mut self.bus),
-            2 => return [channel.read_byte().into(), 0, 0],
             3 => channel.set_gate(op.number == 1, &mut self.bus),
             4 => channel.count(),
             5 => added::load_cycle(channel),

@@ -6,7 +6,13 @@ use Rattle.channel_operation.proofs.making.read.Tie as tie
 
 returns : tie.Need-returns
 unfolding operate
-returns c = simp (c .answered .ensures, c .before .before .before .read-byte .ensures)
+returns c =
+    let said = c .before .before .before .before in
+    simp (c .answered .ensures, c .before .as-number .ensures, c .before .before .number .ensures, said .label-of .ensures, said .before .before .read-byte .ensures)
 
 pub read-spec : {M : Type 1} → statement M
-read-spec = tie.close (tie.spec (λ c κs. search needs) (λ c. search needs) (λ c κs. search needs) returns)
+read-spec =
+    tie.close
+    (tie.spec
+    (λ c κs. search needs) (λ c κs. search needs) (λ c. search needs) (λ c κs. search needs) (λ c. search needs) (λ c κs. search needs)
+    (λ c κs. search needs) returns)

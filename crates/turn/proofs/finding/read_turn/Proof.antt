@@ -6,8 +6,8 @@ use borrow.Author.Needs.{needs}
 use Rattle.turn.proofs.finding.read_turn.Statement.{statement}
 use Rattle.turn.proofs.finding.read_turn.Tie as tie
 
-cast-t5 : tie.Need-cast-t5
-cast-t5 c = omega (arith, data-below _ _ (sym (c .before .before .before .port-of .ensures) ∙ c .before .known .given .1))
+cast-t6 : tie.Need-cast-t6
+cast-t6 c = omega (arith, data-below _ _ (sym (c .before .before .before .port-of .ensures) ∙ c .before .known .given .1))
 
 returns : tie.Need-returns
 returns c =
@@ -15,7 +15,7 @@ returns c =
     rw is (refl, data-below _ _ is)
 
 returns-2 : tie.Need-returns-2
-returns-2 c = rw (sym (c .before .before .port-of .ensures) ∙ c .enum-told .given .1) (refl, tt)
+returns-2 c = rw (c .command-label .ensures, sym (c .before .before .before .port-of .ensures) ∙ c .before .enum-told .given .1) (refl, tt)
 
 returns-3 : tie.Need-returns-3
 returns-3 c = rw (c .refuse .ensures, sym (c .before .before .before .port-of .ensures) ∙ c .before .enum-told2 .given .1) (refl, tt)
@@ -26,8 +26,9 @@ read-turn-spec =
     (tie.spec
     (λ c κs. search needs)
     (λ c. search needs)
-    cast-t5
+    cast-t6
     (λ c. search needs)
+    (λ c κs. search needs)
     (λ c. search needs)
     (λ c κs. search needs)
     returns

@@ -43,7 +43,7 @@ returns-4 c b has =
     ∙ ap (λ d. settle b (a .n) d (now (a .events)) (a .place)) (c .before .before .before .before .set-gate .ensures ∙ ap (λ d. setGate d (told .0 .0)) (sym (has .channel-is))))
 
 returns-5 : tie.Need-returns-5
-returns-5 c b has = simp (c .before .before .enum-told2 .given .1, c .before .read-byte .ensures, has .channel-is)
+returns-5 c b has = simp (c .before .before .before .enum-told2 .given .1, c .before .before .read-byte .ensures, c .label-of .ensures, has .channel-is)
 
 returns-6 : tie.Need-returns-6
 returns-6 c b has = simp (c .before .before .work4 .given .1, c .counts .ensures, has .channel-is)
@@ -68,6 +68,7 @@ work-on-spec =
     (λ c κs. search needs)
     (λ c κs. search needs)
     (λ c. search needs)
+    (λ c κs. search needs)
     (λ c κs. search needs)
     (λ c. search needs)
     (λ c κs. search needs)

@@ -1,0 +1,125 @@
+-- Document 02, L3, what the two words of a read are worth. The byte is the half that they say. A byte that is held is of the count that one latch took; and two reads of one
+-- channel, the first `low held` and the second `high held`, with no command for it, reset or other read of it between them, give both halves of one such count. Proved in
+-- proofs/Held.antt; docs/READING.md says it in words.
+use Prim.Native.Nat.{ℕ, _/_, _%_, _<_}
+use mathlib.Core.Bool.{Bool, true, false}
+use mathlib.Core.List.{List, [], _∷_, _++_}
+use mathlib.Core.Logic.{_⊎_}
+use mathlib.Core.Path.{_≡_}
+use lib.ListN.{length}
+use Rattle.control.specs.declared.Command.the-variants.{LatchCount}
+use Rattle.control.specs.Control.{commandOf}
+use Rattle.latch.specs.declared.label.Label.{Label}
+use Rattle.latch.specs.declared.label.WhichHalf.the-variants.{Neither}
+use Rattle.latch.specs.Label.{IsHalf, withValue}
+use Rattle.board.specs.declared.Board.{Board}
+use Rattle.board.specs.Board.{channelAt, withChannel}
+use Rattle.step.specs.Operation.{Operation, ReadPort, LoadCycle}
+use Rattle.step.specs.Step.{step, steps}
+use Rattle.step.specs.Accepted.{IsAccepted, acceptedOf}
+use Rattle.reading.specs.Passing.{MayPass}
+use Rattle.reading.specs.Reading.{readOf, controlWrite, Calls, latch, countsMade, Reading}
+use Rattle.reading.specs.Spelling.{remaining, Says, lowHeld, highHeld}
+
+-- the board with another value in channel i's output latch
+abbrev pub withOutputLatch : Board → ℕ → ℕ → Board
+withOutputLatch b i v = withChannel b i (withValue (channelAt b i) v)
+
+-- "low or high half": what an accepted read of a data port says does not go by the value read, and the byte is that half of it, whatever it is; "and whether the channel
+-- was latched just before"
+pub record SaysOf (b : Board) (i x : ℕ) (label : Label) : Type 0 where
+  pub low-or-high : label .half ≡ Neither → ⊥
+  pub half : IsHalf (label .half) x (channelAt b i .latch .«output_latch»)
+  pub mark : label .held ≡ channelAt b i .latch .«count_is_latched»
+  pub of-any-value : (v : ℕ) → (y : ℕ) × IsHalf (label .half) y v × Says y label (step (withOutputLatch b i v) (readOf i) .reply)
+
+abbrev pub SaysItsHalf : Type 0
+SaysItsHalf =
+    (b : Board) (i : ℕ) → i < 3 → length (b .channels) ≡ 3 → (x : ℕ) (label : Label) → Says x label (step b (readOf i) .reply) → SaysOf b i x label
+
+-- "and the command port prints `read 00 none live`", whatever is latched
+abbrev pub CommandSaysNothing : Type 0
+CommandSaysNothing = (b : Board) → Says 0 (record { half = Neither; held = false }) (step b (ReadPort 0x43) .reply)
+
+-- a call that latches the count of channel i: a control byte that is its latch command
+pub record Latches (i : ℕ) (o : Operation) : Type 0 where
+  pub byte : ℕ
+  pub events : List ℕ
+  pub place : ℕ
+  pub is : o ≡ controlWrite byte events place
+  pub command : commandOf byte ≡ LatchCount i
+
+-- channel i is latched, and this is the count in its output latch
+pub record IsHeld (b : Board) (i count : ℕ) : Type 0 where
+  pub latched : channelAt b i .latch .«count_is_latched» ≡ true
+  pub holds : channelAt b i .latch .«output_latch» ≡ count
+
+-- .. on the board that the calls begin from, and after each of them
+abbrev pub HeldOver : Board → ℕ → List Operation → ℕ → Type 0
+HeldOver b i [] count = IsHeld b i count
+HeldOver b i (o ∷ os) count = IsHeld b i count × HeldOver (step b o .board) i os count
+
+-- the count that one latch took: it is one of the calls, it was accepted, this was the counting element then, and since then the channel has held it
+pub record TakenBy (b : Board) (i : ℕ) (calls : List Operation) (count : ℕ) : Type 0 where
+  pub before : List Operation
+  pub latching : Operation
+  pub after : List Operation
+  pub are : calls ≡ before ++ (latching ∷ after)
+  pub latches : Latches i latching
+  pub is-accepted : IsAccepted (steps b before) latching
+  pub element : channelAt (steps b before) i .counter .«counting_element» ≡ count
+  pub since : HeldOver (step (steps b before) latching .board) i after count
+
+-- .. or a latch from before the calls, and the channel has held it all the time
+abbrev pub OfOneLatch : Board → ℕ → List Operation → ℕ → Type 0
+OfOneLatch b i calls count = TakenBy b i calls count ⊎ HeldOver b i calls count
+
+-- An accepted read that says that its byte is held, after any calls, in any access: the byte is the half that it says of the count that one latch took.
+abbrev pub HeldByte : Type 0
+HeldByte =
+    (b : Board) (i : ℕ) → i < 3 → length (b .channels) ≡ 3 → (calls : List Operation) (x : ℕ) (label : Label)
+    → Says x label (step (steps b calls) (readOf i) .reply)
+    → label .held ≡ true
+    → (count : ℕ) × IsHalf (label .half) x count × OfOneLatch b i calls count
+
+-- no command for channel i, no reset and no read of it: what may pass during a reading, and a load cycle, which a held count does not see
+abbrev pub LeavesLatch : ℕ → Operation → Type 0
+LeavesLatch i o = MayPass i o ⊎ (o ≡ LoadCycle i)
+
+abbrev pub AllLeaveLatch : ℕ → List Operation → Type 0
+AllLeaveLatch i [] = Unit
+AllLeaveLatch i (o ∷ os) = LeavesLatch i o × AllLeaveLatch i os
+
+module _ (b : Board) (i : ℕ) (calls between : List Operation) where
+  -- the board when the turn of the first read comes, and of the second
+  abbrev pub atLow : Board
+  atLow = steps b calls
+
+  abbrev pub atHigh : Board
+  atHigh = steps (step atLow (readOf i) .board) between
+
+  -- after any calls a first read that says `low held`, and a second that says `high held`
+  pub record HeldWord (x y : ℕ) : Type 0 where
+    pub first : Says x lowHeld (step atLow (readOf i) .reply)
+    pub between-leave : AllLeaveLatch i (acceptedOf (step atLow (readOf i) .board) between)
+    pub second : Says y highHeld (step atHigh (readOf i) .reply)
+
+-- Both bytes are of the count that one latch took, from any board of three channels.
+abbrev pub OneLatch : Type 0
+OneLatch =
+    (b : Board) (i : ℕ) → i < 3 → length (b .channels) ≡ 3 → (calls between : List Operation) (x y : ℕ) → HeldWord b i calls between x y
+    → (count : ℕ) × (x ≡ count % 256) × (y ≡ count / 256) × OfOneLatch b i calls count
+
+-- .. so the latch is one of the calls, where the channel was not latched before them
+abbrev pub LatchAmongCalls : Type 0
+LatchAmongCalls =
+    (b : Board) (i : ℕ) → i < 3 → length (b .channels) ≡ 3 → channelAt b i .latch .«count_is_latched» ≡ false
+    → (calls between : List Operation) (x y : ℕ) → HeldWord b i calls between x y
+    → (count : ℕ) × (x ≡ count % 256) × (y ≡ count / 256) × TakenBy b i calls count
+
+-- .. and the two reads of every reading of demand 3 are such a pair, with the count that it promises
+abbrev pub ReadingIsHeld : Type 0
+ReadingIsHeld =
+    (b : Board) (i : ℕ) (bcd : Bool) (v : ℕ) (calls : Calls) → Reading b i bcd v calls
+    → HeldWord b i (calls .before ++ (latch calls ∷ calls .after)) (calls .between) (remaining bcd v (countsMade b i calls) % 256)
+    (remaining bcd v (countsMade b i calls) / 256)
