@@ -44,7 +44,7 @@ use Rattle.step.proofs.Three.{step-three, steps-three}
 use Rattle.reading.specs.Passing.{MayWrite, AllMayPass}
 use Rattle.reading.specs.Reading.{readOf, controlWrite, latch, halfRead}
 use Rattle.reading.specs.Spelling.{Says}
-use Rattle.reading.specs.Held.{withOutputLatch, SaysItsHalf, CommandSaysNothing, Latches, IsHeld, HeldOver, TakenBy, OfOneLatch, HeldByte, LeavesLatch, AllLeaveLatch, atLow, atHigh, OneLatch, LatchAmongCalls, ReadingIsHeld}
+use Rattle.reading.specs.Held.{withOutputLatch, SaysItsHalf, CommandSaysNothing, Latches, IsHeld, HeldOver, TakenBy, OfOneLatch, HeldByte, LeavesLatch, AllLeaveLatch, atLow, atHigh, OneLatch, LatchAmongCalls, ReadingIsHeld, LatchIsSaid}
 use Rattle.reading.proofs.May.{not-latched}
 use Rattle.reading.proofs.Counted.{Undisturbed, undisturbed-none, undisturbed-then, cycle-undisturbed}
 use Rattle.reading.proofs.Spelling.{same-read}
@@ -309,3 +309,27 @@ reading-is-held b i bcd v calls reading =
       between-leave = rw both (may-leave i (acceptedOf (halfRead b i calls) (calls .between)) (reading .between-may));
       second = rw both (spelled .1);
     }
+
+-- what the next read of a held channel says
+held-is-said : (b : Board) (i : ℕ) → i < 3 → (count : ℕ) → IsHeld b i count
+    → (x : ℕ) × (label : Label) × Says x label (step b (readOf i) .reply) × (label .held ≡ true) × IsHalf (label .half) x count
+unfolding labelOf
+held-is-said b i on count h =
+    let c = channelAt b i in
+    (readByte c .byte, labelOf c, read-reply b i on, h .latched, subst (λ (v : ℕ). IsHalf (labelOf c .half) (readByte c .byte) v) (h .holds) (label-half c (c .latch .«output_latch»)))
+
+pub latch-is-said : LatchIsSaid
+unfolding latchCount
+latch-is-said b i on three latching l took between all =
+    let c = channelAt b i in
+    let made : channelAt (step b latching .board) i ≡ latchCount c =
+    subst (λ (o : Operation). IsAccepted b o → channelAt (step b o .board) i ≡ latchCount c) (sym (l .is))
+    (command-turn b three i on (l .byte) (l .events) (l .place) (LatchCount i) (latchCount c) (l .command) refl)
+    took in
+    let latched : channelAt (step b latching .board) i .latch .«count_is_latched» ≡ true = ap (λ (d : Channel). d .latch .«count_is_latched») made in
+    let u = all-leave (step b latching .board) (step-three b three latching) i on between all in
+    held-is-said (steps (step b latching .board) between) i on (c .counter .«counting_element»)
+    (record {
+      latched = u .same-latched ∙ latched;
+      holds = ap (λ (k : Latch). k .«output_latch») (u .still-held latched) ∙ ap (λ (d : Channel). d .latch .«output_latch») made;
+    })

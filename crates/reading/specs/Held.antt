@@ -1,6 +1,6 @@
 -- Document 02, L3, what the two words of a read are worth. The byte is the half that they say. A byte that is held is of the count that one latch took; and two reads of one
--- channel, the first `low held` and the second `high held`, with no command for it, reset or other read of it between them, give both halves of one such count. Proved in
--- proofs/Held.antt; docs/READING.md says it in words.
+-- channel, the first `low held` and the second `high held`, with no command for it, reset or other read of it between them, give both halves of one such count. And a latch
+-- makes the next read say `held`. Proved in proofs/Held.antt; docs/READING.md says it in words.
 use Prim.Native.Nat.{ℕ, _/_, _%_, _<_}
 use mathlib.Core.Bool.{Bool, true, false}
 use mathlib.Core.List.{List, [], _∷_, _++_}
@@ -123,3 +123,13 @@ ReadingIsHeld =
     (b : Board) (i : ℕ) (bcd : Bool) (v : ℕ) (calls : Calls) → Reading b i bcd v calls
     → HeldWord b i (calls .before ++ (latch calls ∷ calls .after)) (calls .between) (remaining bcd v (countsMade b i calls) % 256)
     (remaining bcd v (countsMade b i calls) / 256)
+
+-- And the other way: after an accepted latch, and calls that leave it, the next read says `held`, in any access, and its byte is of the count that the latch took.
+abbrev pub LatchIsSaid : Type 0
+LatchIsSaid =
+    (b : Board) (i : ℕ) → i < 3 → length (b .channels) ≡ 3 → (latching : Operation) → Latches i latching → IsAccepted b latching
+    → (between : List Operation) → AllLeaveLatch i (acceptedOf (step b latching .board) between)
+    → (x : ℕ) × (label : Label)
+    × Says x label (step (steps (step b latching .board) between) (readOf i) .reply)
+    × (label .held ≡ true)
+    × IsHalf (label .half) x (channelAt b i .counter .«counting_element»)
