@@ -1,1 +1,2 @@
 pub mod Leaves
+pub mod Alike

@@ -1,7 +1,7 @@
 -- What the words of a read tell: low or high, and the byte is that half of the output latch, whatever stands there; and a read after which the channel is latched still was
 -- the first of a held word. Assumes nothing.
-use mathlib.Core.Bool.{true, false≢true}
-use mathlib.Core.Path.{_≡_, refl}
+use mathlib.Core.Bool.{Bool, true, false, false≢true}
+use mathlib.Core.Path.{_≡_, refl, sym, _∙_}
 use native.Mathlib.Omega.{arith}
 use Prim.Native.Nat.{ℕ}
 use Rattle.channel.specs.declared.Channel.{Channel}
@@ -55,3 +55,11 @@ unfolding readByte
 starts-held c e =
     let all = starts-in (c .latch .«read_state») (c .control .«rw_mode») (c .latch) refl e in
     record { access = all .0; whole = all .1; held = all .2 }
+
+latches-nothing-in : (c : Channel) (after : Bool) → readByte c .channel .latch .«count_is_latched» ≡ after → c .latch .«count_is_latched» ≡ false → after ≡ false
+latches-nothing-in c false is free = refl
+latches-nothing-in c true is free = absurd (false≢true (sym free ∙ starts-held c is .held))
+
+-- a channel that is not latched is not latched after a read either
+pub read-latches-nothing : (c : Channel) → c .latch .«count_is_latched» ≡ false → readByte c .channel .latch .«count_is_latched» ≡ false
+read-latches-nothing c = latches-nothing-in c _ refl

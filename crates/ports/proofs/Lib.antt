@@ -1,2 +1,3 @@
 pub mod Below
+pub mod CommandRead
 pub mod Settling

@@ -20,7 +20,7 @@ use Rattle.latch.specs.Reading.{readByte}
 use Rattle.latch.specs.declared.label.WhichHalf.the-variants.{Neither}
 use Rattle.latch.specs.Label.{labelOf, IsHalf, withValue}
 use Rattle.latch.proofs.Words.{first-latch}
-use Rattle.latch.proofs.Labels.{low-or-high, label-half, label-same, Starts, starts-held}
+use Rattle.latch.proofs.Labels.{low-or-high, label-half, label-same, Starts, starts-held, read-latches-nothing}
 use Rattle.mode.specs.Mode.{setMode}
 use Rattle.load.specs.Cycle as channel
 use Rattle.board.specs.declared.Board.{Board}
@@ -34,6 +34,7 @@ use Rattle.ports.specs.declared.port.Port.the-variants as port
 use Rattle.ports.specs.Port.{portOf}
 use Rattle.ports.specs.Reads.{readFrom, readPort}
 use Rattle.ports.proofs.Below.{command-port}
+use Rattle.ports.proofs.CommandRead.{command-read}
 use Rattle.step.specs.Operation.{Operation, WritePort, ReadPort, SetChannelGate, Counts, LoadCycle, CatchUp, Run, Reset, GetOutputState, GetChannelCount, DoesChannelRetrigger, IsDirty, GetTimerAccum, WorkOff}
 use Rattle.step.specs.Step.{step, steps}
 use Rattle.step.specs.Accepted.{IsAccepted, unlessRefused, acceptedOf}
@@ -44,7 +45,7 @@ use Rattle.step.proofs.Three.{step-three, steps-three}
 use Rattle.reading.specs.Passing.{MayWrite, AllMayPass}
 use Rattle.reading.specs.Reading.{readOf, controlWrite, latch, halfRead}
 use Rattle.reading.specs.Spelling.{Says}
-use Rattle.reading.specs.Held.{withOutputLatch, SaysItsHalf, CommandSaysNothing, Latches, IsHeld, HeldOver, TakenBy, OfOneLatch, HeldByte, LeavesLatch, AllLeaveLatch, atLow, atHigh, OneLatch, LatchAmongCalls, ReadingIsHeld, LatchIsSaid}
+use Rattle.reading.specs.Held.{withOutputLatch, SaysItsHalf, CommandSaysNothing, Latches, IsHeld, HeldOver, TakenBy, OfOneLatch, HeldByte, LeavesLatch, AllLeaveLatch, atLow, atHigh, OneLatch, LatchAmongCalls, ReadingIsHeld, LiveThenHeld, LatchIsSaid}
 use Rattle.reading.proofs.May.{not-latched}
 use Rattle.reading.proofs.Counted.{Undisturbed, undisturbed-none, undisturbed-then, cycle-undisturbed}
 use Rattle.reading.proofs.Spelling.{same-read}
@@ -256,8 +257,7 @@ says-its-half b i on three x label says =
     }
 
 pub command-says-nothing : CommandSaysNothing
-unfolding readPort portOf
-command-says-nothing b = refl
+command-says-nothing = command-read
 
 pub held-byte : HeldByte
 unfolding labelOf
@@ -265,6 +265,19 @@ held-byte b i on three calls x label says held =
     let s = says-its-half (steps b calls) i on (steps-three b three calls) x label says in
     let count = channelAt (steps b calls) i .latch .«output_latch» in
     (count, s .half, of-one-latch b three i on calls count (record { latched = sym (s .mark) ∙ held; holds = refl }))
+
+pub latch-among-calls : LatchAmongCalls
+latch-among-calls b i calls count free = ⊎-elim (λ taken. taken) (λ over. absurd (false≢true (sym free ∙ held-now b i calls count over .latched)))
+
+pub live-then-held : LiveThenHeld
+unfolding labelOf
+live-then-held b i on three x first says live between y second says-later held =
+    let c = channelAt b i in
+    let free : c .latch .«count_is_latched» ≡ false = ap (λ (l : Label). l .held) (read-said b i on x first says .1) ∙ live in
+    let after : channelAt (step b (readOf i) .board) i .latch .«count_is_latched» ≡ false =
+    ap (λ (d : Channel). d .latch .«count_is_latched») (read-leaves b three i on) ∙ read-latches-nothing c free in
+    let all = held-byte (step b (readOf i) .board) i on (step-three b three (readOf i)) between y second says-later held in
+    (all .0, all .1, latch-among-calls (step b (readOf i) .board) i between (all .0) after (all .2))
 
 pub one-latch : OneLatch
 unfolding labelOf
@@ -285,15 +298,6 @@ one-latch b i on three calls between x y w =
       sym (first .0) ∙ first-byte c count holds,
       sym (second .0) ∙ second-byte d count still,
       of-one-latch b three i on calls count (record { latched = s .held; holds = refl }),
-    )
-
-pub latch-among-calls : LatchAmongCalls
-latch-among-calls b i on three free calls between x y w =
-    let all = one-latch b i on three calls between x y w in (
-      all .0,
-      all .1,
-      all .2,
-      ⊎-elim (λ taken. taken) (λ over. absurd (false≢true (sym free ∙ held-now b i calls (all .0) over .latched))) (all .3),
     )
 
 may-leave : (i : ℕ) (os : List Operation) → AllMayPass i os → AllLeaveLatch i os

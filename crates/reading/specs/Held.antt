@@ -74,6 +74,12 @@ pub record TakenBy (b : Board) (i : ℕ) (calls : List Operation) (count : ℕ) 
 abbrev pub OfOneLatch : Board → ℕ → List Operation → ℕ → Type 0
 OfOneLatch b i calls count = TakenBy b i calls count ⊎ HeldOver b i calls count
 
+-- Where the channel was not latched before the calls, the latch is one of them.
+abbrev pub LatchAmongCalls : Type 0
+LatchAmongCalls =
+    (b : Board) (i : ℕ) (calls : List Operation) (count : ℕ) → channelAt b i .latch .«count_is_latched» ≡ false → OfOneLatch b i calls count
+    → TakenBy b i calls count
+
 -- An accepted read that says that its byte is held, after any calls, in any access: the byte is the half that it says of the count that one latch took.
 abbrev pub HeldByte : Type 0
 HeldByte =
@@ -110,19 +116,21 @@ OneLatch =
     (b : Board) (i : ℕ) → i < 3 → length (b .channels) ≡ 3 → (calls between : List Operation) (x y : ℕ) → HeldWord b i calls between x y
     → (count : ℕ) × (x ≡ count % 256) × (y ≡ count / 256) × OfOneLatch b i calls count
 
--- .. so the latch is one of the calls, where the channel was not latched before them
-abbrev pub LatchAmongCalls : Type 0
-LatchAmongCalls =
-    (b : Board) (i : ℕ) → i < 3 → length (b .channels) ≡ 3 → channelAt b i .latch .«count_is_latched» ≡ false
-    → (calls between : List Operation) (x y : ℕ) → HeldWord b i calls between x y
-    → (count : ℕ) × (x ≡ count % 256) × (y ≡ count / 256) × TakenBy b i calls count
-
 -- .. and the two reads of every reading of demand 3 are such a pair, with the count that it promises
 abbrev pub ReadingIsHeld : Type 0
 ReadingIsHeld =
     (b : Board) (i : ℕ) (bcd : Bool) (v : ℕ) (calls : Calls) → Reading b i bcd v calls
     → HeldWord b i (calls .before ++ (latch calls ∷ calls .after)) (calls .between) (remaining bcd v (countsMade b i calls) % 256)
     (remaining bcd v (countsMade b i calls) / 256)
+
+-- A word begun live and latched between its bytes is torn, and the words tell: where a read says `live`, and a later one `held`, a latch was accepted in between, and the
+-- held byte is of the count that it took.
+abbrev pub LiveThenHeld : Type 0
+LiveThenHeld =
+    (b : Board) (i : ℕ) → i < 3 → length (b .channels) ≡ 3 → (x : ℕ) (first : Label) → Says x first (step b (readOf i) .reply) → first .held ≡ false
+    → (between : List Operation) (y : ℕ) (second : Label) → Says y second (step (steps (step b (readOf i) .board) between) (readOf i) .reply)
+    → second .held ≡ true
+    → (count : ℕ) × IsHalf (second .half) y count × TakenBy (step b (readOf i) .board) i between count
 
 -- And the other way: after an accepted latch, and calls that leave it, the next read says `held`, in any access, and its byte is of the count that the latch took.
 abbrev pub LatchIsSaid : Type 0

@@ -324,6 +324,8 @@ fn torn_words() {
     let start = load(fresh(), 0x00, 0x01);
     say(b"held word, a count between its bytes:");
     say_read(counts(say_read(latch(start), DATA), 1), DATA);
+    say(b"\ntorn word, a count between its bytes:");
+    say_read(counts(say_read(start, DATA), 1), DATA);
     say(b"\ntorn word, a count and a latch between its bytes:");
     say_read(latch(counts(say_read(start, DATA), 1)), DATA);
     say(b"\nword of two latches, a count between them:");
