@@ -3,3 +3,4 @@ pub mod Whole
 pub mod Lent
 pub mod Apart
 pub mod Ticks
+pub mod ReadBytes

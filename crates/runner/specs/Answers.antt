@@ -1,7 +1,7 @@
 -- docs/ENCODING.md, "The answers of a trace: 16 bytes an operation".
-use Prim.Native.Nat.{ℕ, _+_}
+use Prim.Native.Nat.{ℕ, _+_, _*_}
 use mathlib.Core.Bool.{cond}
-use mathlib.Core.List.{List, [], _∷_}
+use mathlib.Core.List.{List, _∷_, _++_}
 use lib.Dec.{ltb}
 use lib.ListN.{getD}
 use Rattle.numbers.specs.Flags.{flagNumber}
@@ -16,13 +16,13 @@ use Rattle.runner.specs.declared.answering.Said.{Said}
 abbrev pub traceAnswerSize : ℕ
 traceAnswerSize = 1 + 1 + 6 + 4 + 4
 
--- "the refusal's number, or 0", "how many event bytes were written", "the timer ticks yielded, or the ticks made"
+-- "the refusal's number, or 0", "how many event bytes were written", "the timer ticks yielded, or the ticks made", or what was read
 abbrev pub saying : ℕ → ℕ → ℕ → Said
-saying refusal written number = record { refusal = refusal; written = written; value = fourBytes number }
+saying refusal written value = record { refusal = refusal; written = written; value = value }
 
--- of a read: "8 the byte, 9 its half, 10 1 if it was held, 11 0"
-abbrev pub readSaid : PortRead → Said
-readSaid r = record { refusal = 0; written = 0; value = r .byte ∷ halfNumber (r .label .half) ∷ flagNumber (r .label .held) ∷ 0 ∷ [] }
+-- of a read: "8 the byte, 9 its half, 10 1 if it was held, 11 0" (`read-bytes`)
+abbrev pub readNumber : PortRead → ℕ
+readNumber r = r .byte + 256 * halfNumber (r .label .half) + 65536 * flagNumber (r .label .held)
 
 -- events are lent "at place 0", so as many bytes were written as the new place says; no more than six are lent
 abbrev pub bytesWritten : ℕ → ℕ
@@ -31,7 +31,7 @@ bytesWritten place = cond (ltb 6 place) 6 place
 -- "0 where none of them is answered"
 abbrev pub saidBy : Value → Said
 saidBy (newPlace place) = saying 0 (bytesWritten place) 0
-saidBy (byte r) = readSaid r
+saidBy (byte r) = saying 0 0 (readNumber r)
 saidBy (ticks number) = saying 0 0 number
 saidBy done = saying 0 0 0
 saidBy (outputState level) = saying 0 0 0
@@ -49,7 +49,7 @@ saidIn (accepted value) = saidBy value
 abbrev pub saidBytes : Said → List ℕ → ℕ → List ℕ
 saidBytes s events left =
     s .refusal ∷ s .written ∷ getD events 0 0 ∷ getD events 1 0 ∷ getD events 2 0 ∷ getD events 3 0 ∷ getD events 4 0 ∷ getD events 5 0
-    ∷ getD (s .value) 0 0 ∷ getD (s .value) 1 0 ∷ getD (s .value) 2 0 ∷ getD (s .value) 3 0 ∷ fourBytes left
+    ∷ fourBytes (s .value) ++ fourBytes left
 
 unfoldable pub traceAnswerBytes : Reply Value → List ℕ → ℕ → List ℕ
 traceAnswerBytes reply events left = saidBytes (saidIn reply) events left

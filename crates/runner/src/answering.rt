@@ -4,41 +4,36 @@ use board::PortRead;
 use time::SystemTicks;
 ghost use mathlib.Core.Path.{_≡_};
 ghost use Rattle.board.specs.Answer.{replyOf};
-ghost use Rattle.runner.specs.Answers.{saying, readSaid, bytesWritten, saidIn, traceAnswerBytes};
+ghost use Rattle.runner.specs.Answers.{readNumber, bytesWritten, saidIn, traceAnswerBytes};
 
-// The refusal's number, how many event bytes were written, six event bytes, what was answered, and the remainder.
+// The refusal's number, how many event bytes were written, six event bytes, and two numbers.
 pub(crate) const TRACE_ANSWER_SIZE: usize = 1 + 1 + 6 + 4 + 4;
 
 // The refusal's number, how many event bytes were written, and what was read, the ticks yielded or the ticks made; each 0 where there is none.
 pub struct Said {
     pub refusal: u8,
     pub written: u8,
-    pub value: [u8; 4],
+    pub value: u32,
 }
 
-fn saying(refusal: u8, written: u8, number: u32) -> Said
-    ensures { λ r. ⌜ r ≡ saying refusal written number ⌝ }
+fn saying(written: u8, value: u32) -> Said
+    ensures { λ r. ⌜ r ≡ record { refusal = 0; written = written; value = value } ⌝ }
 {
-    let value = numbers::four_bytes(number);
     Said {
-        refusal,
+        refusal: 0,
         written,
         value,
     }
 }
 
-// The byte, which half it is, and whether it was held.
-fn read_said(read: PortRead) -> Said
-    ensures { λ r. ⌜ r ≡ readSaid read ⌝ }
+// The byte, which half it is, and whether it was held, each in a byte of its own.
+fn read_number(read: PortRead) -> u32
+    ensures { λ r. ⌜ r ≡ readNumber read ⌝ }
 {
     let label = read.label;
     let half = label.half;
-    let value = [read.byte, half.number(), numbers::flag_byte(label.held), 0];
-    Said {
-        refusal: 0,
-        written: 0,
-        value,
-    }
+    let held = numbers::flag_byte(label.held) as u16;
+    numbers::long(numbers::word(read.byte, half.number()), held)
 }
 
 // The events were lent at place 0, so as many bytes were written as the new place says. No more than six are lent.
@@ -55,19 +50,23 @@ fn said_in(answer: Answer) -> Said
     ensures { λ r. ⌜ r ≡ saidIn (replyOf answer) ⌝ }
 {
     match answer {
-        Answer::Refused(refusal) => saying(refusal.number(), 0, 0),
-        Answer::Place(at) => saying(0, bytes_written(at), 0),
-        Answer::Byte(read) => read_said(read),
-        Answer::Ticks(number) => saying(0, 0, number.0),
+        Answer::Refused(refusal) => Said {
+            refusal: refusal.number(),
+            written: 0,
+            value: 0,
+        },
+        Answer::Place(at) => saying(bytes_written(at), 0),
+        Answer::Byte(read) => saying(0, read_number(read)),
+        Answer::Ticks(number) => saying(0, number.0),
         Answer::Worked(worked) => {
             let made = worked.made;
-            saying(0, bytes_written(worked.place), made.0)
+            saying(bytes_written(worked.place), made.0)
         }
-        Answer::Done => saying(0, 0, 0),
-        Answer::OutputState(_) => saying(0, 0, 0),
-        Answer::Count(_) => saying(0, 0, 0),
-        Answer::Retriggers(_) => saying(0, 0, 0),
-        Answer::Dirty(_, _, _) => saying(0, 0, 0),
+        Answer::Done => saying(0, 0),
+        Answer::OutputState(_) => saying(0, 0),
+        Answer::Count(_) => saying(0, 0),
+        Answer::Retriggers(_) => saying(0, 0),
+        Answer::Dirty(_, _, _) => saying(0, 0),
     }
 }
 
@@ -79,7 +78,7 @@ pub(crate) fn trace_answer_bytes(
     ensures { λ r. ⌜ r ≡ traceAnswerBytes (replyOf answer) events (left .0) ⌝ }
 {
     let said = said_in(answer);
-    let value = said.value;
+    let value = numbers::four_bytes(said.value);
     let rest = numbers::four_bytes(left.0);
     [
         said.refusal,

@@ -4,13 +4,13 @@ use Rattle.runner.proofs.answering.said_in.Statement.{statement}
 use Rattle.runner.proofs.answering.said_in.Tie as tie
 
 returns : tie.Need-returns
-returns c = simp (c .saying .ensures, c .before .number .ensures, c .before .before .before .answer .given .1)
+returns c = simp (c .number .ensures, c .before .before .answer .given .1)
 
 returns-2 : tie.Need-returns-2
-returns-2 c = simp (c .saying2 .ensures, c .before .bytes-written .ensures, c .before .before .before .answer2 .given .1)
+returns-2 c = simp (c .saying .ensures, c .before .bytes-written .ensures, c .before .before .before .answer2 .given .1)
 
 returns-3 : tie.Need-returns-3
-returns-3 c = simp (c .read-said .ensures, c .before .before .answer3 .given .1)
+returns-3 c = simp (c .saying2 .ensures, c .before .read-number .ensures, c .before .before .before .answer3 .given .1)
 
 returns-4 : tie.Need-returns-4
 returns-4 c = simp (c .saying3 .ensures, c .before .before .answer4 .given .1)
@@ -37,7 +37,7 @@ pub said-in-spec : {M : Type 1} → statement M
 said-in-spec =
     tie.close
     (tie.spec
-    (λ c. search needs) (λ c κs. search needs) (λ c κs. search needs) (λ c. search needs) (λ c κs. search needs) (λ c κs. search needs)
+    (λ c. search needs) (λ c κs. search needs) (λ c. search needs) (λ c κs. search needs) (λ c κs. search needs) (λ c. search needs)
     (λ c. search needs) (λ c κs. search needs) (λ c. search needs) (λ c κs. search needs) (λ c. search needs) (λ c κs. search needs)
     (λ c κs. search needs) (λ c. search needs) (λ c κs. search needs) (λ c. search needs) (λ c κs. search needs) (λ c. search needs)
     (λ c κs. search needs) (λ c. search needs) (λ c κs. search needs) (λ c. search needs) (λ c κs. search needs) returns
