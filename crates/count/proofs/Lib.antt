@@ -1,4 +1,5 @@
 -- What the decimal step does to the digits, and what n counts come to. The functions' own proofs are in the folders beside. Assumes nothing.
+pub mod Borrow
 pub mod Weight
 pub mod Repeated
 pub mod Held

@@ -1,32 +1,15 @@
 // Counts: the counting element goes down by one in its radix, once or a number of times.
+mod digits;
+
 use channel::Channel;
 use channel::Latch;
+pub use digits::decimal_step;
+use digits::decimal_steps;
 ghost use mathlib.Core.Path.{_≡_};
-ghost use Rattle.count.specs.Step.{decimalStep, stepIn};
+ghost use Rattle.count.specs.Step.{stepIn};
 ghost use Rattle.numbers.specs.Times.{times};
 ghost use Rattle.count.specs.Count.{count};
 ghost use Rattle.count.specs.Inner.{followedBy, tickedBy};
-
-// The decimal step borrows from the lowest digit that is not 0.
-pub fn decimal_step(element: u16) -> u16
-    ensures { λ r. ⌜ r ≡ decimalStep element ⌝ }
-{
-    if element == 0 {
-        return 0x9999;
-    }
-    if element % 16 != 0 {
-        return element - 1;
-    }
-    let from_tens = element / 16;
-    if from_tens % 16 != 0 {
-        return element - 0x7;
-    }
-    let from_hundreds = from_tens / 16;
-    if from_hundreds % 16 != 0 {
-        return element - 0x67;
-    }
-    element - 0x667
-}
 
 pub fn step_in(bcd: bool, element: u16) -> u16
     ensures { λ r. ⌜ r ≡ stepIn bcd element ⌝ }
@@ -47,43 +30,6 @@ pub fn count(c: Channel) -> Channel
     let mut next = c.put_element(element);
     next.counter.ticked = true;
     next
-}
-
-// How many steps come to as much: from digits 0 to 9 a turn is 10,000.
-fn steps_needed(element: u16, number: u32) -> u32
-    ensures { λ r. ⌜ times r decimalStep element ≡ times number decimalStep element ⌝ }
-{
-    if number < 10000 {
-        return number;
-    }
-    if element % 16 > 9 {
-        return number;
-    }
-    let from_tens = element / 16;
-    if from_tens % 16 > 9 {
-        return number;
-    }
-    let from_hundreds = from_tens / 16;
-    if from_hundreds % 16 > 9 {
-        return number;
-    }
-    if from_hundreds / 16 > 9 {
-        return number;
-    }
-    number % 10000
-}
-
-fn decimal_steps(element: u16, number: u32) -> u16
-    ensures { λ r. ⌜ r ≡ times number decimalStep element ⌝ }
-{
-    let needed = steps_needed(element, number);
-    let mut e = element;
-    let mut k: u32 = 0;
-    while k < needed {
-        e = decimal_step(e);
-        k += 1;
-    }
-    e
 }
 
 // In binary that many steps are one subtraction that goes round.
