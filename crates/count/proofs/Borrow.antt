@@ -1,12 +1,12 @@
 -- The borrow row by row, as it ends at the ones, the tens, the hundreds, the thousands or nowhere; and that the digits' way comes to what
 -- document 01 takes, from all 65,536 starts. Assumes nothing.
-use Prim.Native.Nat.{ℕ, zero, suc, _-_, _<_}
-use mathlib.Core.Bool.{cond}
+use Prim.Native.Nat.{ℕ, zero, suc, _-_, _≤_, _<_}
+use mathlib.Core.Bool.{true, false, cond}
 use mathlib.Core.Path.{_≡_, refl, sym, ap, _∙_}
 use native.Mathlib.Numerals.{unary-clauses}
 use native.Mathlib.Omega.{arith}
 use lib.Dec.{eqb, eqb·suc-zero}
-use borrow.Author.Tests.{ne-eqb}
+use borrow.Author.Tests.{eq-eqb, ne-eqb}
 use Rattle.numbers.specs.Digits.{ones, tens, hundreds, thousands, pack}
 use Rattle.numbers.proofs.Digits.{ones-pack, tens-pack, hundreds-pack, whole}
 use Rattle.count.specs.declared.digits.Digits.{Digits}
@@ -32,6 +32,13 @@ by-rows a b (suc c) zero = simp (eqb·suc-zero c, unary-clauses)
 by-rows a (suc b) zero zero = simp (eqb·suc-zero b, unary-clauses)
 by-rows (suc a) zero zero zero = simp (eqb·suc-zero a, unary-clauses)
 by-rows zero zero zero zero = refl
+
+-- the two tests of a digit, as the code makes them
+pub above-zero : (n : ℕ) → 0 < n → eqb n 0 ≡ false
+above-zero n h = ne-eqb n 0 (λ z. omega arith)
+
+pub at-zero : (n : ℕ) → n ≤ 0 → eqb n 0 ≡ true
+at-zero n h = eq-eqb n 0 (omega arith)
 
 -- `decimalStep` with its test for 0 answered
 pub step-above : (e : ℕ) → (e ≡ 0 → ⊥) → decimalStep e ≡ e - decimalTake e
@@ -61,25 +68,11 @@ pub step-whole : (e : ℕ) → e < 65536 → decimalStep e ≡ elementOf (borrow
 step-whole e h =
     rw (whole e h) at (step-pack (thousands e) (hundreds e) (tens e) (ones e) (omega arith) (omega arith) (omega arith) (omega arith))
 
--- four bits for each digit are enough for what the borrow leaves
-bits-borrowed : (a b c d : ℕ) → a < 16 → b < 16 → c < 16 → d < 16 → FourBits (borrowed a b c d)
-bits-borrowed a b c (suc d) ha hb hc hd = omega arith
-bits-borrowed a b (suc c) zero ha hb hc hd = omega arith
-bits-borrowed a (suc b) zero zero ha hb hc hd = omega arith
-bits-borrowed (suc a) zero zero zero ha hb hc hd = omega arith
-bits-borrowed zero zero zero zero ha hb hc hd = omega arith
-
-module _ (d : Digits) (f : FourBits d) where
-  pub less-bits : FourBits (oneLess d)
-  less-bits =
-      rw (by-rows (d .thousands) (d .hundreds) (d .tens) (d .ones))
-      (bits-borrowed _ _ _ _ (f .thousands-bits) (f .hundreds-bits) (f .tens-bits) (f .ones-bits))
-
-  -- a step of the digits is a step of the number that has them
-  pub less-element : elementOf (oneLess d) ≡ decimalStep (elementOf d)
-  less-element =
-      rw (by-rows (d .thousands) (d .hundreds) (d .tens) (d .ones))
-      (sym (step-pack _ _ _ _ (f .thousands-bits) (f .hundreds-bits) (f .tens-bits) (f .ones-bits)))
+-- a step of the digits is a step of the number that has them
+pub less-element : (d : Digits) → FourBits d → elementOf (oneLess d) ≡ decimalStep (elementOf d)
+less-element d f =
+    rw (by-rows (d .thousands) (d .hundreds) (d .tens) (d .ones))
+    (sym (step-pack _ _ _ _ (f .thousands-bits) (f .hundreds-bits) (f .tens-bits) (f .ones-bits)))
 
 pub of-bits : (e : ℕ) → FourBits (digitsOf e)
 of-bits e = omega arith

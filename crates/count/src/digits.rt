@@ -35,50 +35,50 @@ fn element_of(d: Digits) -> u16
 }
 
 // The ones are asked first. A digit above 0 becomes one less and the borrow ends; a 0 becomes 9 and borrows from the next.
-fn one_less(given: Digits) -> Digits
-    ensures { λ r. ⌜ r ≡ oneLess given ⌝ }
+fn one_less(given: Digits) -> u16
+    requires { ⌜ FourBits given ⌝ }
+    ensures { λ r. ⌜ r ≡ elementOf (oneLess given) ⌝ }
 {
     let mut d = given;
     if d.ones > 0 {
         d.ones -= 1;
-        return d;
+        return element_of(d);
     }
     d.ones = 9;
     if d.tens > 0 {
         d.tens -= 1;
-        return d;
+        return element_of(d);
     }
     d.tens = 9;
     if d.hundreds > 0 {
         d.hundreds -= 1;
-        return d;
+        return element_of(d);
     }
     d.hundreds = 9;
     if d.thousands > 0 {
         d.thousands -= 1;
-        return d;
+        return element_of(d);
     }
     d.thousands = 9;
-    d
+    element_of(d)
 }
 
 pub fn decimal_step(element: u16) -> u16
     ensures { λ r. ⌜ r ≡ decimalStep element ⌝ }
 {
-    element_of(one_less(digits_of(element)))
+    one_less(digits_of(element))
 }
 
-// That many steps, the digits taken apart and put together once.
 fn stepped(element: u16, number: u32) -> u16
     ensures { λ r. ⌜ r ≡ times number decimalStep element ⌝ }
 {
-    let mut d = digits_of(element);
+    let mut e = element;
     let mut k: u32 = 0;
     while k < number {
-        d = one_less(d);
+        e = decimal_step(e);
         k += 1;
     }
-    element_of(d)
+    e
 }
 
 // How many steps come to as much: from digits 0 to 9 a turn is 10,000.
