@@ -33,8 +33,8 @@ by-rows a (suc b) zero zero = simp (eqb·suc-zero b, unary-clauses)
 by-rows (suc a) zero zero zero = simp (eqb·suc-zero a, unary-clauses)
 by-rows zero zero zero zero = refl
 
--- the two tests of a digit, as the code makes them
-pub above-zero : (n : ℕ) → 0 < n → eqb n 0 ≡ false
+-- the two ways that a digit's test can go
+pub above-zero : {m : ℕ} (n : ℕ) → m < n → eqb n 0 ≡ false
 above-zero n h = ne-eqb n 0 (λ z. omega arith)
 
 pub at-zero : (n : ℕ) → n ≤ 0 → eqb n 0 ≡ true
@@ -68,11 +68,25 @@ pub step-whole : (e : ℕ) → e < 65536 → decimalStep e ≡ elementOf (borrow
 step-whole e h =
     rw (whole e h) at (step-pack (thousands e) (hundreds e) (tens e) (ones e) (omega arith) (omega arith) (omega arith) (omega arith))
 
--- a step of the digits is a step of the number that has them
-pub less-element : (d : Digits) → FourBits d → elementOf (oneLess d) ≡ decimalStep (elementOf d)
-less-element d f =
-    rw (by-rows (d .thousands) (d .hundreds) (d .tens) (d .ones))
-    (sym (step-pack _ _ _ _ (f .thousands-bits) (f .hundreds-bits) (f .tens-bits) (f .ones-bits)))
+-- four bits for each digit are enough for what the borrow leaves
+bits-borrowed : (a b c d : ℕ) → a < 16 → b < 16 → c < 16 → d < 16 → FourBits (borrowed a b c d)
+bits-borrowed a b c (suc d) ha hb hc hd = omega arith
+bits-borrowed a b (suc c) zero ha hb hc hd = omega arith
+bits-borrowed a (suc b) zero zero ha hb hc hd = omega arith
+bits-borrowed (suc a) zero zero zero ha hb hc hd = omega arith
+bits-borrowed zero zero zero zero ha hb hc hd = omega arith
+
+module _ (d : Digits) (f : FourBits d) where
+  pub less-bits : FourBits (oneLess d)
+  less-bits =
+      rw (by-rows (d .thousands) (d .hundreds) (d .tens) (d .ones))
+      (bits-borrowed _ _ _ _ (f .thousands-bits) (f .hundreds-bits) (f .tens-bits) (f .ones-bits))
+
+  -- a step of the digits is a step of the number that has them
+  pub less-element : elementOf (oneLess d) ≡ decimalStep (elementOf d)
+  less-element =
+      rw (by-rows (d .thousands) (d .hundreds) (d .tens) (d .ones))
+      (sym (step-pack _ _ _ _ (f .thousands-bits) (f .hundreds-bits) (f .tens-bits) (f .ones-bits)))
 
 pub of-bits : (e : ℕ) → FourBits (digitsOf e)
 of-bits e = omega arith

@@ -35,56 +35,46 @@ fn element_of(d: Digits) -> u16
 }
 
 // The ones are asked first. A digit above 0 becomes one less and the borrow ends; a 0 becomes 9 and borrows from the next.
-fn one_less(given: Digits) -> u16
-    requires { ⌜ FourBits given ⌝ }
-    ensures { λ r. ⌜ r ≡ elementOf (oneLess given) ⌝ }
+fn one_less(given: Digits) -> Digits
+    ensures { λ r. ⌜ r ≡ oneLess given ⌝ }
 {
     let mut d = given;
     if d.ones > 0 {
         d.ones -= 1;
-        return element_of(d);
+        return d;
     }
     d.ones = 9;
     if d.tens > 0 {
         d.tens -= 1;
-        return element_of(d);
+        return d;
     }
     d.tens = 9;
     if d.hundreds > 0 {
         d.hundreds -= 1;
-        return element_of(d);
+        return d;
     }
     d.hundreds = 9;
     if d.thousands > 0 {
         d.thousands -= 1;
-        return element_of(d);
+        return d;
     }
     d.thousands = 9;
-    element_of(d)
+    d
 }
 
 pub fn decimal_step(element: u16) -> u16
     ensures { λ r. ⌜ r ≡ decimalStep element ⌝ }
 {
-    one_less(digits_of(element))
-}
-
-fn stepped(element: u16, number: u32) -> u16
-    ensures { λ r. ⌜ r ≡ times number decimalStep element ⌝ }
-{
-    let mut e = element;
-    let mut k: u32 = 0;
-    while k < number {
-        e = decimal_step(e);
-        k += 1;
-    }
-    e
+    element_of(one_less(digits_of(element)))
 }
 
 // How many steps come to as much: from digits 0 to 9 a turn is 10,000.
 fn steps_needed(element: u16, number: u32) -> u32
     ensures { λ r. ⌜ times r decimalStep element ≡ times number decimalStep element ⌝ }
 {
+    if number < 10000 {
+        return number;
+    }
     let d = digits_of(element);
     if d.ones > 9 {
         return number;
@@ -101,12 +91,16 @@ fn steps_needed(element: u16, number: u32) -> u32
     number % 10000
 }
 
-// Single counts come first: they pay for no look at turns.
+// The digits are taken apart and put together once, however many steps there are.
 pub(crate) fn decimal_steps(element: u16, number: u32) -> u16
     ensures { λ r. ⌜ r ≡ times number decimalStep element ⌝ }
 {
-    if number < 10000 {
-        return stepped(element, number);
+    let needed = steps_needed(element, number);
+    let mut d = digits_of(element);
+    let mut k: u32 = 0;
+    while k < needed {
+        d = one_less(d);
+        k += 1;
     }
-    stepped(element, steps_needed(element, number))
+    element_of(d)
 }

@@ -61,10 +61,13 @@ pub fn ticked_by(number: u32, ticked: bool) -> bool
     true
 }
 
-// That many single counts. The record is put together once, not stepped count by count: docs/PERFORMANCE.md.
+// That many single counts. More than one are put together in the record once, not stepped count by count: docs/PERFORMANCE.md.
 pub fn counts(c: Channel, number: u32) -> Channel
     ensures { λ r. ⌜ r ≡ times number count c ⌝ }
 {
+    if number == 1 {
+        return count(c);
+    }
     let w = c.control;
     let k = c.counter;
     let l = c.latch;

@@ -1,56 +1,35 @@
-// Runs one count from each of the 65,536 starts, in both radixes, latched and not, against a recomputation that goes digit by digit and
-// shares no code with the crate `count`, and prints how many of them differ.
+// Runs one count from each of the 65,536 starts, in both radixes, latched and not, against document 01's own way, and prints how many of them
+// differ. Document 01 takes 1, 0x7, 0x67 or 0x667 from the number. The crate `count` goes digit by digit, and no code is shared.
 use channel::Channel;
 use libc::STDOUT_FILENO;
-ghost use Prim.Native.Nat.{_<_};
 
 // Stands in the output latch before the count, to be seen where the latch must not follow.
 const OLD_LATCH: u16 = 0x5AA5;
 
-// A count is made as on paper: the ones give one; a digit that is 0 becomes the highest and borrows from the next.
-struct Place {
-    digit: u16,
-    borrows: bool,
+fn taken(element: u16) -> u16 {
+    if element % 16 != 0 {
+        return 0x1;
+    }
+    if element / 16 % 16 != 0 {
+        return 0x7;
+    }
+    if element / 16 / 16 % 16 != 0 {
+        return 0x67;
+    }
+    0x667
 }
 
-fn give(digit: u16, asked: bool, highest: u16) -> Place
-    requires { ⌜ (digit < 16) × (highest < 16) ⌝ }
-    ensures { λ r. ⌜ r .digit < 16 ⌝ }
-{
-    if !asked {
-        return Place {
-            digit,
-            borrows: false,
-        };
-    }
-    if digit == 0 {
-        return Place {
-            digit: highest,
-            borrows: true,
-        };
-    }
-    Place {
-        digit: digit - 1,
-        borrows: false,
-    }
-}
-
-fn in_digits(element: u16, highest: u16) -> u16
-    requires { ⌜ highest < 16 ⌝ }
-{
-    let ones = give(element % 16, true, highest);
-    let tens = give(element / 16 % 16, ones.borrows, highest);
-    let hundreds = give(element / 16 / 16 % 16, tens.borrows, highest);
-    let thousands = give(element / 16 / 16 / 16 % 16, hundreds.borrows, highest);
-    ones.digit + 16 * (tens.digit + 16 * (hundreds.digit + 16 * thousands.digit))
-}
-
-// The highest digit is 9 in BCD; a binary number is four digits of which the highest is 15.
-fn on_paper(element: u16, bcd: bool) -> u16 {
+fn below(element: u16, bcd: bool) -> u16 {
     if bcd {
-        return in_digits(element, 9);
+        if element == 0 {
+            return 0x9999;
+        }
+        return std::num::wrapping_sub_u16(element, taken(element));
     }
-    in_digits(element, 15)
+    if element == 0 {
+        return 65535;
+    }
+    element - 1
 }
 
 fn counted(element: u16, bcd: bool, latched: bool) -> Channel {
@@ -68,7 +47,7 @@ fn differs(start: u32, bcd: bool, latched: bool) -> bool {
     let c = counted(element, bcd, latched);
     let k = c.counter;
     let l = c.latch;
-    let right = on_paper(element, bcd);
+    let right = below(element, bcd);
     if k.counting_element != right {
         return true;
     }

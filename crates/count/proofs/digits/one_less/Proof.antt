@@ -1,5 +1,4 @@
 -- `count::digits::one_less` meets its contract: each return is where the borrow ends. Assumes nothing.
-use native.Mathlib.Omega.{arith}
 use borrow.Author.Needs.{needs}
 use Rattle.count.specs.Borrow.{oneLess}
 use Rattle.count.proofs.Borrow.{above-zero, at-zero}
@@ -9,48 +8,48 @@ use Rattle.count.proofs.digits.one_less.Tie as tie
 returns : tie.Need-returns
 unfolding oneLess
 returns c =
-    let d = c .before .before .before .before .args .given in
-    rw (c .element-of .ensures) (simp (above-zero (d .ones) (c .before .before .if1 .taken)))
+    let d = c .before .before .before .args .given in
+    simp
+    (above-zero (d .ones) (c .before .if1 .taken))
 
 returns-2 : tie.Need-returns-2
 unfolding oneLess
 returns-2 c =
-    let d = c .before .before .before .before .before .before .args .given in
-    rw (c .element-of2 .ensures) (simp (at-zero (d .ones) (c .before .before .before .before .if1 .left), above-zero (d .tens) (c .before .before .if2 .taken)))
+    let d = c .before .before .before .before .before .args .given in
+    simp
+    (at-zero (d .ones) (c .before .before .before .if1 .left), above-zero (d .tens) (c .before .if2 .taken))
 
 returns-3 : tie.Need-returns-3
 unfolding oneLess
 returns-3 c =
-    let d = c .before .before .before .before .before .before .before .before .args .given in
-    rw (c .element-of3 .ensures) (simp (at-zero (d .ones) (c .before .before .before .before .before .before .if1 .left), at-zero (d .tens) (c .before .before .before .before .if2 .left), above-zero (d .hundreds) (c .before .before .if3 .taken)))
+    let d = c .before .before .before .before .before .before .before .args .given in
+    simp
+    (at-zero (d .ones) (c .before .before .before .before .before .if1 .left), at-zero (d .tens) (c .before .before .before .if2 .left), above-zero (d .hundreds) (c .before .if3 .taken))
 
 returns-4 : tie.Need-returns-4
 unfolding oneLess
 returns-4 c =
-    let d = c .before .before .before .before .before .before .before .before .before .before .args .given in
-    rw (c .element-of4 .ensures) (simp (at-zero (d .ones) (c .before .before .before .before .before .before .before .before .if1 .left), at-zero (d .tens) (c .before .before .before .before .before .before .if2 .left), at-zero (d .hundreds) (c .before .before .before .before .if3 .left), above-zero (d .thousands) (c .before .before .if4 .taken)))
+    let d = c .before .before .before .before .before .before .before .before .before .args .given in
+    simp
+    (at-zero (d .ones) (c .before .before .before .before .before .before .before .if1 .left), at-zero (d .tens) (c .before .before .before .before .before .if2 .left), at-zero (d .hundreds) (c .before .before .before .if3 .left), above-zero (d .thousands) (c .before .if4 .taken))
 
 returns-5 : tie.Need-returns-5
 unfolding oneLess
 returns-5 c =
-    let d = c .before .before .before .before .before .before .before .before .before .args .given in
-    rw (c .element-of5 .ensures) (simp (at-zero (d .ones) (c .before .before .before .before .before .before .before .if1 .left), at-zero (d .tens) (c .before .before .before .before .before .if2 .left), at-zero (d .hundreds) (c .before .before .before .if3 .left), at-zero (d .thousands) (c .before .if4 .left)))
+    let d = c .before .before .before .before .before .before .before .before .args .given in
+    simp
+    (at-zero (d .ones) (c .before .before .before .before .before .before .if1 .left), at-zero (d .tens) (c .before .before .before .before .if2 .left), at-zero (d .hundreds) (c .before .before .if3 .left), at-zero (d .thousands) (c .if4 .left))
 
 pub one-less-spec : {M : Type 1} → statement M
 one-less-spec =
     tie.close
     (tie.spec
     (λ c. search needs)
-    (λ c κs. omega arith)
     returns
     (λ c. search needs)
-    (λ c κs. omega arith)
     returns-2
     (λ c. search needs)
-    (λ c κs. omega arith)
     returns-3
     (λ c. search needs)
-    (λ c κs. omega arith)
     returns-4
-    (λ c κs. omega arith)
     returns-5)
