@@ -1,7 +1,7 @@
--- The decimal count digit by digit, as the service school teaches it (docs/DIGITS.md). The code follows it; SameStep.antt says that it comes
--- to what document 01 takes (Step.antt).
+-- Request L4: the decimal count "works on four digits with a borrow". The other words quoted are those of docs/DIGITS.md, the school's page.
+-- The code follows this way; document 01's own is in Step.antt, and SameStep.antt says that they come to the same.
 use Prim.Native.Nat.{ℕ, _-_, _<_}
-use mathlib.Core.Bool.{Bool, true, cond, _&&_}
+use mathlib.Core.Bool.{Bool, cond, _&&_}
 use lib.Dec.{eqb}
 use Rattle.numbers.specs.Digits.{ones, tens, hundreds, thousands, pack}
 use Rattle.count.specs.declared.digits.Digits.{Digits}
@@ -21,15 +21,16 @@ pub record FourBits (d : Digits) : Type 0 where
   pub tens-bits : d .tens < 16
   pub ones-bits : d .ones < 16
 
--- a digit that must give one: "a digit above 0 becomes one less"; "a 0 becomes 9"
-abbrev pub given : ℕ → ℕ
-given digit = cond (eqb digit 0) 9 (digit - 1)
+-- "A digit above 0 that lends becomes one less"; "A 0 that lends becomes 9"
+abbrev pub lent : ℕ → ℕ
+lent digit = cond (eqb digit 0) 9 (digit - 1)
 
--- where there is no borrow, the digit stays as it is
-abbrev pub asked : Bool → ℕ → ℕ
-asked borrow digit = cond borrow (given digit) digit
+-- "A digit from which nothing is borrowed stays as it is"
+abbrev pub lentIf : Bool → ℕ → ℕ
+lentIf borrow digit = cond borrow (lent digit) digit
 
--- the borrow walks up from the ones: "a 0 ... borrows from the next", and at a digit above 0 "the borrow ends"
+-- Whether one is borrowed from the tens, the hundreds, the thousands: a 0 that lends "borrows from the next digit up", and at a digit above 0
+-- "the borrow ends".
 abbrev pub fromTens : Digits → Bool
 fromTens d = eqb (d .ones) 0
 
@@ -39,13 +40,14 @@ fromHundreds d = fromTens d && eqb (d .tens) 0
 abbrev pub fromThousands : Digits → Bool
 fromThousands d = fromHundreds d && eqb (d .hundreds) 0
 
+-- "The ones lend one", and the borrow walks up
 unfoldable pub oneLess : Digits → Digits
 oneLess d =
     record {
-      thousands = asked (fromThousands d) (d .thousands);
-      hundreds = asked (fromHundreds d) (d .hundreds);
-      tens = asked (fromTens d) (d .tens);
-      ones = asked true (d .ones);
+      thousands = lentIf (fromThousands d) (d .thousands);
+      hundreds = lentIf (fromHundreds d) (d .hundreds);
+      tens = lentIf (fromTens d) (d .tens);
+      ones = lent (d .ones);
     }
 
 -- one decimal count, digit by digit

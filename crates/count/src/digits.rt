@@ -2,7 +2,7 @@
 ghost use mathlib.Core.Path.{_≡_};
 ghost use Rattle.numbers.specs.Times.{times};
 ghost use Rattle.count.specs.Step.{decimalStep};
-ghost use Rattle.count.specs.Borrow.{digitsOf, elementOf, FourBits, oneLess};
+ghost use Rattle.count.specs.Borrow.{digitsOf, elementOf, FourBits, lent, oneLess};
 
 struct Digits {
     thousands: u8,
@@ -11,7 +11,7 @@ struct Digits {
     ones: u8,
 }
 
-// Two digits in each byte.
+// Each byte holds two digits.
 fn digits_of(element: u16) -> Digits
     ensures { λ r. ⌜ r ≡ digitsOf element ⌝ }
 {
@@ -34,32 +34,35 @@ fn element_of(d: Digits) -> u16
     numbers::word(low, high)
 }
 
-// The ones are asked first. A digit above 0 becomes one less and the borrow ends; a 0 becomes 9 and borrows from the next.
-fn one_less(given: Digits) -> Digits
-    ensures { λ r. ⌜ r ≡ oneLess given ⌝ }
+// A digit that has lent one: above 0 it is one less; a 0 has borrowed from the next digit and is 9.
+fn lent(digit: u8) -> u8
+    ensures { λ r. ⌜ r ≡ lent digit ⌝ }
 {
-    let mut d = given;
+    if digit > 0 {
+        return digit - 1;
+    }
+    9
+}
+
+// The ones lend first. At a digit above 0 the borrow ends; a 0 borrows from the next. The digits above stay as they are.
+fn one_less(d: Digits) -> Digits
+    ensures { λ r. ⌜ r ≡ oneLess d ⌝ }
+{
+    let mut next = d;
+    next.ones = lent(d.ones);
     if d.ones > 0 {
-        d.ones -= 1;
-        return d;
+        return next;
     }
-    d.ones = 9;
+    next.tens = lent(d.tens);
     if d.tens > 0 {
-        d.tens -= 1;
-        return d;
+        return next;
     }
-    d.tens = 9;
+    next.hundreds = lent(d.hundreds);
     if d.hundreds > 0 {
-        d.hundreds -= 1;
-        return d;
+        return next;
     }
-    d.hundreds = 9;
-    if d.thousands > 0 {
-        d.thousands -= 1;
-        return d;
-    }
-    d.thousands = 9;
-    d
+    next.thousands = lent(d.thousands);
+    next
 }
 
 pub fn decimal_step(element: u16) -> u16
@@ -68,13 +71,23 @@ pub fn decimal_step(element: u16) -> u16
     element_of(one_less(digits_of(element)))
 }
 
+// That many steps: the digits are taken apart and put together once.
+fn stepped(element: u16, number: u32) -> u16
+    ensures { λ r. ⌜ r ≡ times number decimalStep element ⌝ }
+{
+    let mut d = digits_of(element);
+    let mut k: u32 = 0;
+    while k < number {
+        d = one_less(d);
+        k += 1;
+    }
+    element_of(d)
+}
+
 // How many steps come to as much: from digits 0 to 9 a turn is 10,000.
 fn steps_needed(element: u16, number: u32) -> u32
     ensures { λ r. ⌜ times r decimalStep element ≡ times number decimalStep element ⌝ }
 {
-    if number < 10000 {
-        return number;
-    }
     let d = digits_of(element);
     if d.ones > 9 {
         return number;
@@ -91,16 +104,12 @@ fn steps_needed(element: u16, number: u32) -> u32
     number % 10000
 }
 
-// The digits are taken apart and put together once, however many steps there are.
+// Fewer steps than a turn are made without a look at turns.
 pub(crate) fn decimal_steps(element: u16, number: u32) -> u16
     ensures { λ r. ⌜ r ≡ times number decimalStep element ⌝ }
 {
-    let needed = steps_needed(element, number);
-    let mut d = digits_of(element);
-    let mut k: u32 = 0;
-    while k < needed {
-        d = one_less(d);
-        k += 1;
+    if number < 10000 {
+        return stepped(element, number);
     }
-    element_of(d)
+    stepped(element, steps_needed(element, number))
 }

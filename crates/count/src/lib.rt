@@ -43,6 +43,16 @@ pub fn steps_in(bcd: bool, element: u16, number: u32) -> u16
     }
 }
 
+// Most calls make one count, and one step should cost no more than itself.
+fn element_after(bcd: bool, element: u16, number: u32) -> u16
+    ensures { λ r. ⌜ r ≡ times number (stepIn bcd) element ⌝ }
+{
+    if number == 1 {
+        return step_in(bcd, element);
+    }
+    steps_in(bcd, element, number)
+}
+
 pub fn followed_by(number: u32, l: Latch, element: u16) -> Latch
     ensures { λ r. ⌜ r ≡ followedBy number l element ⌝ }
 {
@@ -61,17 +71,14 @@ pub fn ticked_by(number: u32, ticked: bool) -> bool
     true
 }
 
-// That many single counts. More than one are put together in the record once, not stepped count by count: docs/PERFORMANCE.md.
+// That many single counts. The record is put together once, not stepped count by count: docs/PERFORMANCE.md.
 pub fn counts(c: Channel, number: u32) -> Channel
     ensures { λ r. ⌜ r ≡ times number count c ⌝ }
 {
-    if number == 1 {
-        return count(c);
-    }
     let w = c.control;
     let k = c.counter;
     let l = c.latch;
-    let element = steps_in(w.bcd_mode, k.counting_element, number);
+    let element = element_after(w.bcd_mode, k.counting_element, number);
     let latch = followed_by(number, l, element);
     let ticked = ticked_by(number, k.ticked);
     let mut next = c;

@@ -58,7 +58,7 @@ fn main() {
     countdown(0x0011);
     say(b"over 0000\n");
     countdown(0x0001);
-    say(b"over 00A0\n");
+    say(b"over 00a0\n");
     countdown(0x00A1);
     say(b"other digits above 9\n");
     row(0x00FF, counted(0x00FF));
