@@ -11,7 +11,8 @@ use Rattle.numbers.specs.Digits.{ones, tens, hundreds, thousands, pack}
 use Rattle.numbers.proofs.Digits.{ones-pack, tens-pack, hundreds-pack, whole}
 use Rattle.count.specs.declared.digits.Digits.{Digits}
 use Rattle.count.specs.Step.{decimalTake, decimalStep}
-use Rattle.count.specs.Borrow.{digitsOf, elementOf, FourBits, oneLess}
+use Rattle.count.specs.Borrow.{digitsOf, elementOf, oneLess}
+use Rattle.count.specs.Inner.{FourBits}
 use Rattle.count.specs.SameStep.{SameStep}
 
 abbrev pub digits : ℕ → ℕ → ℕ → ℕ → Digits
@@ -25,7 +26,7 @@ borrowed a (suc b) zero zero = digits a b 9 9
 borrowed (suc a) zero zero zero = digits a 9 9 9
 borrowed zero zero zero zero = digits 9 9 9 9
 
-pub by-rows : (a b c d : ℕ) → oneLess (digits a b c d) ≡ borrowed a b c d
+by-rows : (a b c d : ℕ) → oneLess (digits a b c d) ≡ borrowed a b c d
 unfolding oneLess
 by-rows a b c (suc d) = simp (eqb·suc-zero d, unary-clauses)
 by-rows a b (suc c) zero = simp (eqb·suc-zero c, unary-clauses)

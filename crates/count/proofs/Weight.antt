@@ -1,10 +1,10 @@
 -- A decimal step and the number that the digits stand for, over all 65,536 starts, digits 10 to 15 too. From anything but 0 a step takes one
 -- of that number. Digits 0 to 9 stay so, and from them it takes one mod 10,000. Assumes nothing.
-use Prim.Native.Nat.{ℕ, zero, suc, _+_, _-_, _*_, _<_}
+use Prim.Native.Nat.{ℕ, zero, suc, _+_, _*_, _<_}
 use mathlib.Core.Path.{_≡_, refl, sym, _∙_}
 use native.Mathlib.Omega.{arith}
 use Rattle.numbers.specs.Modulo.{minusMod}
-use Rattle.numbers.specs.Digits.{ones, tens, hundreds, thousands, pack, GoodDigits, weight, packed}
+use Rattle.numbers.specs.Digits.{pack, GoodDigits, weight, packed}
 use Rattle.numbers.proofs.Digits.{weight-pack, whole, weight-below, packed-weight}
 use Rattle.count.specs.Step.{decimalStep}
 use Rattle.count.specs.Borrow.{elementOf}

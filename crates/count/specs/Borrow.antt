@@ -1,6 +1,6 @@
 -- Request L4: the decimal count "works on four digits with a borrow". The other words quoted are those of docs/DIGITS.md, the school's page.
 -- The code follows this way; document 01's own is in Step.antt, and SameStep.antt says that they come to the same.
-use Prim.Native.Nat.{ℕ, _-_, _<_}
+use Prim.Native.Nat.{ℕ, _-_}
 use mathlib.Core.Bool.{Bool, cond, _&&_}
 use lib.Dec.{eqb}
 use Rattle.numbers.specs.Digits.{ones, tens, hundreds, thousands, pack}
@@ -13,13 +13,6 @@ digitsOf e = record { thousands = thousands e; hundreds = hundreds e; tens = ten
 -- the number that has these digits
 abbrev pub elementOf : Digits → ℕ
 elementOf d = pack (d .thousands) (d .hundreds) (d .tens) (d .ones)
-
--- each digit has four bits of the number, so it may be 10 to 15 too
-pub record FourBits (d : Digits) : Type 0 where
-  pub thousands-bits : d .thousands < 16
-  pub hundreds-bits : d .hundreds < 16
-  pub tens-bits : d .tens < 16
-  pub ones-bits : d .ones < 16
 
 -- "A digit above 0 that lends becomes one less"; "A 0 that lends becomes 9"
 abbrev pub lent : ℕ → ℕ

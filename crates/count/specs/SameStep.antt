@@ -1,4 +1,4 @@
--- The digits' way and document 01's: what is taken from the number (1, 0x7, 0x67 or 0x667) and the borrow that walks over its digits.
+-- The digits' way and document 01's: the borrow that walks over the number's digits, and what is taken from it (1, 0x7, 0x67 or 0x667).
 use Prim.Native.Nat.{ℕ, _<_}
 use mathlib.Core.Path.{_≡_}
 use Rattle.count.specs.Step.{decimalStep}

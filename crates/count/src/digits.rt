@@ -2,7 +2,8 @@
 ghost use mathlib.Core.Path.{_≡_};
 ghost use Rattle.numbers.specs.Times.{times};
 ghost use Rattle.count.specs.Step.{decimalStep};
-ghost use Rattle.count.specs.Borrow.{digitsOf, elementOf, FourBits, lent, oneLess};
+ghost use Rattle.count.specs.Borrow.{digitsOf, elementOf, lent, oneLess};
+ghost use Rattle.count.specs.Inner.{FourBits};
 
 struct Digits {
     thousands: u8,

@@ -43,8 +43,8 @@ pub fn steps_in(bcd: bool, element: u16, number: u32) -> u16
     }
 }
 
-// Most calls make one count, and one step should cost no more than itself.
-fn element_after(bcd: bool, element: u16, number: u32) -> u16
+// Most calls make one count: one step, without the loop.
+fn counted_element(bcd: bool, element: u16, number: u32) -> u16
     ensures { λ r. ⌜ r ≡ times number (stepIn bcd) element ⌝ }
 {
     if number == 1 {
@@ -78,7 +78,7 @@ pub fn counts(c: Channel, number: u32) -> Channel
     let w = c.control;
     let k = c.counter;
     let l = c.latch;
-    let element = element_after(w.bcd_mode, k.counting_element, number);
+    let element = counted_element(w.bcd_mode, k.counting_element, number);
     let latch = followed_by(number, l, element);
     let ticked = ticked_by(number, k.ticked);
     let mut next = c;

@@ -19,6 +19,7 @@ fn taken(element: u16) -> u16 {
     0x667
 }
 
+// What is taken is never above the number: nothing wraps in BCD.
 fn below(element: u16, bcd: bool) -> u16 {
     if bcd {
         if element == 0 {

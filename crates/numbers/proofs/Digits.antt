@@ -19,9 +19,6 @@ module _ (a b c d : ℕ) (ha : a < 16) (hb : b < 16) (hc : c < 16) (hd : d < 16)
   pub thousands-pack : thousands (pack a b c d) ≡ a
   thousands-pack = omega arith
 
-  pub pack-below : pack a b c d < 65536
-  pack-below = omega arith
-
   pub weight-pack : weight (pack a b c d) ≡ 1000 * a + 100 * b + 10 * c + d
   unfolding weight
   weight-pack = simp (ones-pack, tens-pack, hundreds-pack, thousands-pack)

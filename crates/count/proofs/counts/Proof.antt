@@ -5,7 +5,7 @@ use Rattle.count.proofs.counts.Statement.{statement}
 use Rattle.count.proofs.counts.Tie as tie
 
 returns : tie.Need-returns
-returns c = rw counted-at-once (simp (c .before .before .ticked-by .ensures, c .before .before .before .followed-by .ensures, c .before .before .before .before .element-after .ensures))
+returns c = rw counted-at-once (simp (c .before .before .ticked-by .ensures, c .before .before .before .followed-by .ensures, c .before .before .before .before .counted-element .ensures))
 
 pub counts-spec : {M : Type 1} → statement M
 counts-spec = tie.close (tie.spec (λ c κs. search needs) (λ c κs. search needs) (λ c κs. search needs) returns)

@@ -8,7 +8,8 @@ use borrow.Author.Needs.{needs}
 use Rattle.numbers.specs.Times.{times}
 use Rattle.numbers.proofs.Digits.{whole}
 use Rattle.count.specs.Step.{decimalStep}
-use Rattle.count.specs.Borrow.{elementOf, FourBits}
+use Rattle.count.specs.Borrow.{elementOf}
+use Rattle.count.specs.Inner.{FourBits}
 use Rattle.count.proofs.Borrow.{of-bits, less-bits, less-element}
 use Rattle.count.proofs.digits.stepped.Statement.{statement}
 use Rattle.count.proofs.digits.stepped.Tie as tie
