@@ -66,10 +66,15 @@ fn one_less(d: Digits) -> Digits
     next
 }
 
+// Nine counts in ten end at the ones. Both ways say the same; told apart, the first is compiled to next to nothing.
 pub fn decimal_step(element: u16) -> u16
     ensures { λ r. ⌜ r ≡ decimalStep element ⌝ }
 {
-    element_of(one_less(digits_of(element)))
+    let d = digits_of(element);
+    if d.ones > 0 {
+        return element_of(one_less(d));
+    }
+    element_of(one_less(d))
 }
 
 // That many steps: the digits are taken apart and put together once.

@@ -181,6 +181,9 @@ fn single(name: &'static str, begun: &[Six], operations: Vec<Six>) -> Single {
 /// A channel in mode 2 that has a count and counts.
 const COUNTS: [Six; 4] = [[1, 0x43, 0x34, 0, 0, 0], [1, 0x40, 5, 0, 0, 0], [1, 0x40, 1, 0, 0, 0], [5, 0, 0, 0, 0, 0]];
 
+/// The same in BCD.
+const COUNTS_BCD: [Six; 4] = [[1, 0x43, 0x35, 0, 0, 0], [1, 0x40, 5, 0, 0, 0], [1, 0x40, 1, 0, 0, 0], [5, 0, 0, 0, 0, 0]];
+
 /// The same operation on each channel in turn.
 fn in_turn(code: u8) -> Vec<Six> {
     each(252, |i| six(code, (i % 3) as u8, 0))
@@ -194,6 +197,7 @@ pub fn singles() -> Vec<Single> {
         single("latched read: latch or one byte", &[], latched_reads(252)),
         single("gate", &COUNTS, each(252, |i| six(3, 0, (i % 2) as u32))),
         single("one count", &COUNTS, each(252, |_| six(4, 0, 1))),
+        single("one count, BCD", &COUNTS_BCD, each(252, |_| six(4, 0, 1))),
         single("load cycle", &COUNTS, each(252, |_| six(5, 0, 0))),
         Single { all: no_tick, begun: 0, calls: 1 },
         single("query: output", &COUNTS, in_turn(17)),
