@@ -15,12 +15,12 @@ abbrev pub elementOf : Digits → ℕ
 elementOf d = pack (d .thousands) (d .hundreds) (d .tens) (d .ones)
 
 -- "A digit above 0 that lends becomes one less"; "A 0 that lends becomes 9"
-abbrev pub lent : ℕ → ℕ
-lent digit = cond (eqb digit 0) 9 (digit - 1)
+abbrev pub afterLending : ℕ → ℕ
+afterLending digit = cond (eqb digit 0) 9 (digit - 1)
 
 -- "A digit from which nothing is borrowed stays as it is"
-abbrev pub lentIf : Bool → ℕ → ℕ
-lentIf borrow digit = cond borrow (lent digit) digit
+abbrev pub afterBorrow : Bool → ℕ → ℕ
+afterBorrow borrow digit = cond borrow (afterLending digit) digit
 
 -- Whether one is borrowed from the tens, the hundreds, the thousands: a 0 that lends "borrows from the next digit up", and at a digit above 0
 -- "the borrow ends".
@@ -37,10 +37,10 @@ fromThousands d = fromHundreds d && eqb (d .hundreds) 0
 unfoldable pub oneLess : Digits → Digits
 oneLess d =
     record {
-      thousands = lentIf (fromThousands d) (d .thousands);
-      hundreds = lentIf (fromHundreds d) (d .hundreds);
-      tens = lentIf (fromTens d) (d .tens);
-      ones = lent (d .ones);
+      ones = afterLending (d .ones);
+      tens = afterBorrow (fromTens d) (d .tens);
+      hundreds = afterBorrow (fromHundreds d) (d .hundreds);
+      thousands = afterBorrow (fromThousands d) (d .thousands);
     }
 
 -- one decimal count, digit by digit

@@ -2,7 +2,7 @@
 ghost use mathlib.Core.Path.{_≡_};
 ghost use Rattle.numbers.specs.Times.{times};
 ghost use Rattle.count.specs.Step.{decimalStep};
-ghost use Rattle.count.specs.Borrow.{digitsOf, elementOf, lent, oneLess};
+ghost use Rattle.count.specs.Borrow.{digitsOf, elementOf, afterLending, oneLess};
 ghost use Rattle.count.specs.Inner.{FourBits};
 
 struct Digits {
@@ -36,8 +36,8 @@ fn element_of(d: Digits) -> u16
 }
 
 // A digit that has lent one: above 0 it is one less; a 0 has borrowed from the next digit and is 9.
-fn lent(digit: u8) -> u8
-    ensures { λ r. ⌜ r ≡ lent digit ⌝ }
+fn after_lending(digit: u8) -> u8
+    ensures { λ r. ⌜ r ≡ afterLending digit ⌝ }
 {
     if digit > 0 {
         return digit - 1;
@@ -50,19 +50,19 @@ fn one_less(d: Digits) -> Digits
     ensures { λ r. ⌜ r ≡ oneLess d ⌝ }
 {
     let mut next = d;
-    next.ones = lent(d.ones);
+    next.ones = after_lending(d.ones);
     if d.ones > 0 {
         return next;
     }
-    next.tens = lent(d.tens);
+    next.tens = after_lending(d.tens);
     if d.tens > 0 {
         return next;
     }
-    next.hundreds = lent(d.hundreds);
+    next.hundreds = after_lending(d.hundreds);
     if d.hundreds > 0 {
         return next;
     }
-    next.thousands = lent(d.thousands);
+    next.thousands = after_lending(d.thousands);
     next
 }
 

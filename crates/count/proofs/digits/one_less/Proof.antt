@@ -10,28 +10,28 @@ unfolding oneLess
 returns c =
     let d = c .before .before .before .args .d in
     simp
-    (c .before .before .lent .ensures, above-zero (d .ones) (c .if1 .taken))
+    (c .before .before .after-lending .ensures, above-zero (d .ones) (c .if1 .taken))
 
 returns-2 : tie.Need-returns-2
 unfolding oneLess
 returns-2 c =
     let d = c .before .before .before .before .before .before .args .d in
     simp
-    (c .before .before .before .before .before .lent .ensures, at-zero (d .ones) (c .before .before .before .if1 .left), c .before .before .lent2 .ensures, above-zero (d .tens) (c .if2 .taken))
+    (c .before .before .before .before .before .after-lending .ensures, at-zero (d .ones) (c .before .before .before .if1 .left), c .before .before .after-lending2 .ensures, above-zero (d .tens) (c .if2 .taken))
 
 returns-3 : tie.Need-returns-3
 unfolding oneLess
 returns-3 c =
     let d = c .before .before .before .before .before .before .before .before .before .args .d in
     simp
-    (c .before .before .before .before .before .before .before .before .lent .ensures, at-zero (d .ones) (c .before .before .before .before .before .before .if1 .left), c .before .before .before .before .before .lent2 .ensures, at-zero (d .tens) (c .before .before .before .if2 .left), c .before .before .lent3 .ensures, above-zero (d .hundreds) (c .if3 .taken))
+    (c .before .before .before .before .before .before .before .before .after-lending .ensures, at-zero (d .ones) (c .before .before .before .before .before .before .if1 .left), c .before .before .before .before .before .after-lending2 .ensures, at-zero (d .tens) (c .before .before .before .if2 .left), c .before .before .after-lending3 .ensures, above-zero (d .hundreds) (c .if3 .taken))
 
 returns-4 : tie.Need-returns-4
 unfolding oneLess
 returns-4 c =
     let d = c .before .before .before .before .before .before .before .before .before .before .args .d in
     simp
-    (c .before .before .before .before .before .before .before .before .before .lent .ensures, at-zero (d .ones) (c .before .before .before .before .before .before .before .if1 .left), c .before .before .before .before .before .before .lent2 .ensures, at-zero (d .tens) (c .before .before .before .before .if2 .left), c .before .before .before .lent3 .ensures, at-zero (d .hundreds) (c .before .if3 .left), c .lent4 .ensures)
+    (c .before .before .before .before .before .before .before .before .before .after-lending .ensures, at-zero (d .ones) (c .before .before .before .before .before .before .before .if1 .left), c .before .before .before .before .before .before .after-lending2 .ensures, at-zero (d .tens) (c .before .before .before .before .if2 .left), c .before .before .before .after-lending3 .ensures, at-zero (d .hundreds) (c .before .if3 .left), c .after-lending4 .ensures)
 
 pub one-less-spec : {M : Type 1} → statement M
 one-less-spec =
