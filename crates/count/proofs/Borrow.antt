@@ -64,11 +64,6 @@ step-pack (suc a) zero zero zero ha hb hc hd =
     step-above _ (λ z. omega arith) ∙ simp (take-pack (suc a) 0 0 0 ha hb hc hd) (omega arith)
 step-pack zero zero zero zero ha hb hc hd = unfold decimalStep in refl
 
--- a step of a number is a step of its digits
-pub step-whole : (e : ℕ) → e < 65536 → decimalStep e ≡ elementOf (borrowed (thousands e) (hundreds e) (tens e) (ones e))
-step-whole e h =
-    rw (whole e h) at (step-pack (thousands e) (hundreds e) (tens e) (ones e) (omega arith) (omega arith) (omega arith) (omega arith))
-
 -- four bits for each digit are enough for what the borrow leaves
 bits-borrowed : (a b c d : ℕ) → a < 16 → b < 16 → c < 16 → d < 16 → FourBits (borrowed a b c d)
 bits-borrowed a b c (suc d) ha hb hc hd = omega arith
@@ -94,3 +89,7 @@ of-bits e = omega arith
 
 pub same-step : SameStep
 same-step e h = less-element (digitsOf e) (of-bits e) ∙ ap decimalStep (whole e h)
+
+-- so a step of a number goes by the rows
+pub step-whole : (e : ℕ) → e < 65536 → decimalStep e ≡ elementOf (borrowed (thousands e) (hundreds e) (tens e) (ones e))
+step-whole e h = sym (same-step e h) ∙ ap elementOf (by-rows (thousands e) (hundreds e) (tens e) (ones e))
