@@ -37,7 +37,7 @@ idle-due c = due-in (c .counter .«channel_state») c
 
 idle-keeps : (c : Channel) → Kept c (idle c)
 unfolding idle agedBy changeOutputState
-idle-keeps c = record { control-kept = refl; latch-kept = refl; element-kept = refl; ticked-kept = refl }
+idle-keeps c = record { control-kept = refl; latch-kept = refl; element-kept = refl; status-latch-kept = refl; ticked-kept = refl }
 
 idle-state : (c : Channel) → idle c .counter .«channel_state» ≡ c .counter .«channel_state»
 unfolding idle agedBy changeOutputState

@@ -2,7 +2,7 @@
 -- latch." Assumes nothing.
 use Prim.Native.Nat.{ℕ, zero, suc}
 use mathlib.Core.Path.{_≡_, refl, ap, _∙_}
-use mathlib.Core.Bool.{false}
+use mathlib.Core.Bool.{true, false}
 use Rattle.channel.specs.declared.Channel.{Channel}
 use Rattle.channel.specs.declared.ControlWord.{ControlWord}
 use Rattle.channel.specs.declared.Latch.{Latch}
@@ -11,9 +11,10 @@ use Rattle.channel.specs.declared.ReadState.the-variants.{NoRead}
 use Rattle.channel.specs.declared.RwMode.{RwMode}
 use Rattle.channel.specs.Shared.{putElement}
 use Rattle.count.specs.Count.{count}
-use Rattle.count.proofs.Repeated.{control-kept}
+use Rattle.count.proofs.Repeated.{control-kept, status-kept}
 use Rattle.count.proofs.Held.{held-after}
 use Rattle.latch.specs.Latching.{latchCount}
+use Rattle.latch.specs.Status.{noStatus}
 use Rattle.mode.specs.Mode.{setMode}
 use Rattle.numbers.specs.Times.{times}
 use Rattle.sheet.specs.Reading.{readOut}
@@ -31,7 +32,11 @@ access-stands : (n : ℕ) (c : Channel) → times n count (latchCount c) .contro
 unfolding latchCount
 access-stands n c = control-kept n (latchCount c)
 
-module _ (n : ℕ) (a : RwMode) (c : Channel) (access : c .control .«rw_mode» ≡ a) (whole : c .latch .«read_state» ≡ NoRead) where
+status-stands : (n : ℕ) (c : Channel) → times n count (latchCount c) .status ≡ c .status
+unfolding latchCount
+status-stands n c = status-kept n (latchCount c)
+
+module _ (n : ℕ) (a : RwMode) (c : Channel) (none : noStatus c ≡ true) (access : c .control .«rw_mode» ≡ a) (whole : c .latch .«read_state» ≡ NoRead) where
   after-access : times n count (latchCount c) .control .«rw_mode» ≡ a
   after-access = ap (λ (w : ControlWord). w .«rw_mode») (access-stands n c) ∙ access
 
@@ -39,16 +44,19 @@ module _ (n : ℕ) (a : RwMode) (c : Channel) (access : c .control .«rw_mode» 
   unfolding latchCount
   after-whole = ap (λ (l : Latch). l .«read_state») (latch-stands n c) ∙ whole
 
+  after-none : noStatus (times n count (latchCount c)) ≡ true
+  after-none = rw (status-stands n c) none
+
   -- "freezes the value read": however many counts follow, the bytes are those of the value at the latch
   pub frozen : bytesRead (bytesOf (sheetAccess a)) (times n count (latchCount c)) ≡ readOut (sheetAccess a) (c .counter .«counting_element»)
   unfolding latchCount
   frozen =
-      read-agrees a (times n count (latchCount c)) after-access after-whole
+      read-agrees a (times n count (latchCount c)) after-none after-access after-whole
       ∙ ap (λ (l : Latch). readOut (sheetAccess a) (l .«output_latch»)) (latch-stands n c)
 
   -- "reading it out ... ends the latch"
   pub read-out-ends : afterReads (bytesOf (sheetAccess a)) (times n count (latchCount c)) .latch .«count_is_latched» ≡ false
-  read-out-ends = reading-ends a (times n count (latchCount c)) after-access after-whole .0
+  read-out-ends = reading-ends a (times n count (latchCount c)) after-none after-access after-whole .0
 
 -- "counting goes on underneath": the counting element does not see the latch
 unseen : (n : ℕ) (c : Channel)

@@ -2,6 +2,7 @@ pub mod ControlByte
 pub mod Counting
 pub mod Reading
 pub mod Latching
+pub mod ReadBack
 pub mod Loading
 pub mod Output
 pub mod Gate

@@ -85,7 +85,7 @@ deferred-puts-off : (c : Channel) → PutOff c (deferred c)
 unfolding deferred changeOutputState changeChannelState
 deferred-puts-off c =
     record {
-      count-stands = record { control-kept = refl; latch-kept = refl; element-kept = refl; ticked-kept = refl };
+      count-stands = record { control-kept = refl; latch-kept = refl; element-kept = refl; status-latch-kept = refl; ticked-kept = refl };
       waits-on = refl;
       output-stands = rests (c .pins .output) (c .control .mode);
       pulse-ends = ends (c .pins .output) (c .control .mode);

@@ -5,7 +5,7 @@ use Rattle.channel.specs.declared.RwMode.{RwMode}
 use Rattle.channel.specs.declared.RwMode.the-variants.{Lsb, Msb, LsbMsb}
 use Rattle.channel.specs.Modes.{modeNumber}
 use Rattle.control.specs.declared.Command.{Command}
-use Rattle.control.specs.declared.Command.the-variants.{Nothing, LatchCount, SetMode}
+use Rattle.control.specs.declared.Command.the-variants.{Nothing, LatchCount, SetMode, ReadBack}
 use Rattle.sheet.specs.ControlByte.{Access, lowByte, highByte, lowThenHigh, Request, noCounter, latchCounter, program}
 use Rattle.sheet.specs.Ticking.{Chip, chip8253, chip8254}
 
@@ -22,3 +22,4 @@ abbrev pub sheetRequest : Command → Request
 sheetRequest Nothing = noCounter
 sheetRequest (LatchCount n) = latchCounter n
 sheetRequest (SetMode n w) = program n (sheetAccess (w .«rw_mode»)) (modeNumber (w .mode)) (w .«bcd_mode»)
+sheetRequest (ReadBack w) = noCounter

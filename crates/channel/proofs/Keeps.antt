@@ -9,7 +9,7 @@ use Rattle.channel.specs.Shared.{changeChannelState, changeOutputState}
 use Rattle.channel.specs.Kept.{Kept}
 
 pub kept-same : (c : Channel) → Kept c c
-kept-same c = record { control-kept = refl; latch-kept = refl; element-kept = refl; ticked-kept = refl }
+kept-same c = record { control-kept = refl; latch-kept = refl; element-kept = refl; status-latch-kept = refl; ticked-kept = refl }
 
 pub kept-then : {c d e : Channel} → Kept c d → Kept d e → Kept c e
 kept-then p q =
@@ -17,6 +17,7 @@ kept-then p q =
       control-kept = q .control-kept ∙ p .control-kept;
       latch-kept = q .latch-kept ∙ p .latch-kept;
       element-kept = q .element-kept ∙ p .element-kept;
+      status-latch-kept = q .status-latch-kept ∙ p .status-latch-kept;
       ticked-kept = q .ticked-kept ∙ p .ticked-kept;
     }
 
@@ -26,11 +27,11 @@ kept-pick false p q = q
 
 pub kept-state : (c : Channel) (s : ChannelState) → Kept c (changeChannelState c s)
 unfolding changeChannelState
-kept-state c s = record { control-kept = refl; latch-kept = refl; element-kept = refl; ticked-kept = refl }
+kept-state c s = record { control-kept = refl; latch-kept = refl; element-kept = refl; status-latch-kept = refl; ticked-kept = refl }
 
 pub kept-output : (c : Channel) (level : Bool) → Kept c (changeOutputState c level)
 unfolding changeOutputState
-kept-output c level = record { control-kept = refl; latch-kept = refl; element-kept = refl; ticked-kept = refl }
+kept-output c level = record { control-kept = refl; latch-kept = refl; element-kept = refl; status-latch-kept = refl; ticked-kept = refl }
 
 pub kept-dirty : (c : Channel) (dirty : Bool) → Kept c (withDirty c dirty)
-kept-dirty c dirty = record { control-kept = refl; latch-kept = refl; element-kept = refl; ticked-kept = refl }
+kept-dirty c dirty = record { control-kept = refl; latch-kept = refl; element-kept = refl; status-latch-kept = refl; ticked-kept = refl }

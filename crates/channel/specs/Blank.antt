@@ -17,5 +17,6 @@ blank =
       counter = record { «channel_state» = WaitingForReload; «cycles_in_state» = 0; «counting_element» = 0; ticked = false };
       latch = record { «output_latch» = 0; «count_is_latched» = false; «read_state» = NoRead };
       pins = record { gate = false; output = false };
+      status = record { «status_latch» = 0; «null_count» = false };
       dirty = false;
     }

@@ -24,6 +24,7 @@ freshAt level =
       counter = record { «channel_state» = WaitingForReload; «cycles_in_state» = 0; «counting_element» = 0; ticked = false };
       latch = record { «output_latch» = 0; «count_is_latched» = false; «read_state» = NoRead };
       pins = record { gate = level; output = false };
+      status = record { «status_latch» = 0; «null_count» = false };
       dirty = false;
     }
 

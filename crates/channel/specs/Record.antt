@@ -6,6 +6,7 @@ use Rattle.channel.specs.declared.Load.{Load}
 use Rattle.channel.specs.declared.Counter.{Counter}
 use Rattle.channel.specs.declared.Latch.{Latch}
 use Rattle.channel.specs.declared.Pins.{Pins}
+use Rattle.channel.specs.declared.Status.{Status}
 
 abbrev pub withLoad : Channel → Load → Channel
 withLoad c l =
@@ -16,6 +17,7 @@ withLoad c l =
       counter = c .counter;
       latch = c .latch;
       pins = c .pins;
+      status = c .status;
       dirty = c .dirty;
     }
 
@@ -28,6 +30,7 @@ withCounter c k =
       counter = k;
       latch = c .latch;
       pins = c .pins;
+      status = c .status;
       dirty = c .dirty;
     }
 
@@ -40,6 +43,7 @@ withLatch c l =
       counter = c .counter;
       latch = l;
       pins = c .pins;
+      status = c .status;
       dirty = c .dirty;
     }
 
@@ -52,6 +56,20 @@ withPins c p =
       counter = c .counter;
       latch = c .latch;
       pins = p;
+      status = c .status;
+      dirty = c .dirty;
+    }
+
+abbrev pub withStatus : Channel → Status → Channel
+withStatus c s =
+    record {
+      control = c .control;
+      reloading = c .reloading;
+      load = c .load;
+      counter = c .counter;
+      latch = c .latch;
+      pins = c .pins;
+      status = s;
       dirty = c .dirty;
     }
 
@@ -64,5 +82,6 @@ withDirty c d =
       counter = c .counter;
       latch = c .latch;
       pins = c .pins;
+      status = c .status;
       dirty = d;
     }

@@ -1,11 +1,11 @@
--- What several rules of document 01 do to a channel's record: enter a state, change the output, give the counting element a value.
+-- What several rules of documents 01 and 02 do to a channel's record: enter a state, change the output, give the counting element a value, set the null-count mark.
 use Prim.Native.Nat.{ℕ}
 use mathlib.Core.Bool.{Bool, true, false, cond}
 use Rattle.channel.specs.declared.Channel.{Channel}
 use Rattle.channel.specs.declared.Latch.{Latch}
 use Rattle.channel.specs.declared.ChannelState.{ChannelState}
 use Rattle.channel.specs.declared.ChannelState.the-variants.{WaitingForReload, WaitingForGate, DeferLoadCycle, WaitingForLoadCycle, WaitingForLoadTrigger, Counting}
-use Rattle.channel.specs.Record.{withCounter, withLatch, withPins, withDirty}
+use Rattle.channel.specs.Record.{withCounter, withLatch, withPins, withStatus, withDirty}
 
 -- `Counting`, with either reload flag
 abbrev pub isCounting : ChannelState → Bool
@@ -73,3 +73,7 @@ putElement c e =
       ticked = c .counter .ticked;
     }))
     (followed (c .latch) e)
+
+-- L5: "the null-count mark: set by a mode set and a completed load, cleared when a load cycle moves the value"
+abbrev pub withNullCount : Channel → Bool → Channel
+withNullCount c null = withStatus c (record { «status_latch» = c .status .«status_latch»; «null_count» = null })

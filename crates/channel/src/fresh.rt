@@ -12,6 +12,7 @@ use crate::Pins;
 use crate::ReadState;
 use crate::Reloading;
 use crate::RwMode;
+use crate::Status;
 ghost use mathlib.Core.Path.{_≡_};
 ghost use Rattle.channel.specs.Fresh.{freshLoad, freshAt, fresh, reset};
 
@@ -66,6 +67,10 @@ impl Channel {
             gate,
             output: false,
         };
+        let status = Status {
+            status_latch: 0,
+            null_count: false,
+        };
         Channel {
             control,
             reloading,
@@ -73,6 +78,7 @@ impl Channel {
             counter,
             latch,
             pins,
+            status,
             dirty: false,
         }
     }

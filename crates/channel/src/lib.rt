@@ -1,7 +1,7 @@
 // One channel of the timer: its record, and the rules that several parts of it share.
 //
 // The groups follow the chip's block diagram: control word register, count register, counting element, output latch, the two
-// pins. `Reloading` has what a mode leaves behind for its loads, and `dirty` stands alone. No record holds its channel's number; its place
+// pins, status. `Reloading` has what a mode leaves behind for its loads, and `dirty` stands alone. No record holds its channel's number; its place
 // on the board is its number.
 pub mod fresh;
 pub mod number;
@@ -105,10 +105,20 @@ pub struct Pins {
     pub output: bool,
 }
 
+// What a status byte needs beside the other groups, and the status latch. Both models have them; only the 8254's read-back shows them.
+pub struct Status {
+    // The status byte that is held, or 0 for none: its access is never 0, so no status byte is.
+    pub status_latch: u8,
+    // Since the last mode set, or since a count was written, nothing has been loaded into the counting element.
+    pub null_count: bool,
+}
+
 pub struct Channel {
     pub control: ControlWord,
     // It stands behind the control word so that what lies between is copied in whole words: docs/PERFORMANCE.md.
     pub dirty: bool,
+    // It stands beside `dirty`, since a complete load sets marks in both.
+    pub status: Status,
     pub reloading: Reloading,
     pub load: Load,
     pub counter: Counter,

@@ -1,10 +1,10 @@
-// Entry into a state, a change of the output, and a new value of the counting element.
+// Entry into a state, a change of the output, a new value of the counting element, and the null-count mark.
 use crate::Channel;
 use crate::ChannelState;
 use crate::Counter;
 use crate::Latch;
 ghost use mathlib.Core.Path.{_≡_};
-ghost use Rattle.channel.specs.Shared.{changeChannelState, changeOutputState, followed, putElement};
+ghost use Rattle.channel.specs.Shared.{changeChannelState, changeOutputState, followed, putElement, withNullCount};
 
 impl Latch {
     // A new value of the counting element, as the output latch takes it.
@@ -63,6 +63,15 @@ impl Channel {
         let mut c = self;
         c.counter.counting_element = element;
         c.latch = latch;
+        c
+    }
+
+    // What was written last is not loaded yet, or it is.
+    pub fn mark_null_count(self, null_count: bool) -> Channel
+        ensures { λ r. ⌜ r ≡ withNullCount self «null_count» ⌝ }
+    {
+        let mut c = self;
+        c.status.null_count = null_count;
         c
     }
 }

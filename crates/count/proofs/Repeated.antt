@@ -40,6 +40,12 @@ unfolding count putElement
 control-kept zero c = refl
 control-kept (suc n) c = control-kept n c
 
+-- .. and what the status shows and holds
+pub status-kept : (n : ℕ) (c : Channel) → times n count c .status ≡ c .status
+unfolding count putElement
+status-kept zero c = refl
+status-kept (suc n) c = status-kept n c
+
 pub element-after : (n : ℕ) (c : Channel)
     → times n count c .counter .«counting_element» ≡ times n (stepIn (c .control .«bcd_mode»)) (c .counter .«counting_element»)
 unfolding count putElement

@@ -21,7 +21,7 @@ edge-keeps true false c = kept-then (stopping-keeps c) (raising-keeps (stopping 
 edge-keeps true true c = kept-same c
 
 level-keeps : (c : Channel) (level : Bool) → Kept c (withGate c level)
-level-keeps c level = record { control-kept = refl; latch-kept = refl; element-kept = refl; ticked-kept = refl }
+level-keeps c level = record { control-kept = refl; latch-kept = refl; element-kept = refl; status-latch-kept = refl; ticked-kept = refl }
 
 pub gate-keeps : (c : Channel) (level : Bool) → Kept c (setGate c level)
 unfolding setGate

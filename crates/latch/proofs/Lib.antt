@@ -1,2 +1,4 @@
+pub mod StatusByte
 pub mod Words
 pub mod Labels
+pub mod ReadBacks

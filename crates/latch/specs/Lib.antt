@@ -1,3 +1,5 @@
 pub mod Latching
+pub mod Status
+pub mod ReadBack
 pub mod Reading
 pub mod Label

@@ -1,4 +1,4 @@
--- Document 01, "Counting, latch and reading": reads of a channel's data port.
+-- Document 01, "Counting, latch and reading": reads of a channel's data port; document 02, L5, where a status is held.
 use Prim.Native.Nat.{ℕ, _/_, _%_}
 use mathlib.Core.Bool.{Bool, true, false, cond}
 use Rattle.channel.specs.declared.Channel.{Channel}
@@ -11,6 +11,7 @@ use Rattle.channel.specs.Record.{withLatch}
 use Rattle.latch.specs.declared.reading.Half.{Half}
 use Rattle.latch.specs.declared.reading.Half.the-variants.{Low, High}
 use Rattle.latch.specs.declared.reading.ByteRead.{ByteRead}
+use Rattle.latch.specs.Status.{noStatus, withStatusLatch}
 
 -- "Reads come from the output latch: low, high, or low then high; in any access a half-read word gives its high byte next."
 abbrev pub halfAt : ReadState → RwMode → Half
@@ -41,10 +42,18 @@ afterRead l a =
 abbrev pub nextHalf : Channel → Half
 nextHalf c = halfAt (c .latch .«read_state») (c .control .«rw_mode»)
 
--- the byte read, and the channel after it
-unfoldable pub readByte : Channel → ByteRead
-readByte c =
+-- a byte of the count, and the channel after it
+abbrev pub countRead : Channel → ByteRead
+countRead c =
     record {
       byte = byteAt (nextHalf c) (c .latch .«output_latch»);
       channel = withLatch c (afterRead (c .latch) (c .control .«rw_mode»));
     }
+
+-- L5: "A held status is read first, once, and does not disturb a half-read word": it neither ends a latch nor is half of a word
+abbrev pub statusRead : Channel → ByteRead
+statusRead c = record { byte = c .status .«status_latch»; channel = withStatusLatch c 0 }
+
+-- the byte read, and the channel after it
+unfoldable pub readByte : Channel → ByteRead
+readByte c = cond (noStatus c) (countRead c) (statusRead c)

@@ -1,15 +1,15 @@
-// What a read says of its byte: which half it is, and whether the channel was latched just before. It goes by the record given to the read, not by the one that the read leaves.
+// What a read says of its byte: which half it is, and whether the channel was latched just before, or that it is a held status. It goes by the record given to the read, not by the one that the read leaves.
 use crate::reading::Half;
 use crate::reading::next_half;
 use channel::Channel;
 ghost use mathlib.Core.Path.{_≡_};
-ghost use Rattle.latch.specs.Label.{whichHalf, labelOf, commandLabel, halfNumber};
+ghost use Rattle.latch.specs.Label.{whichHalf, countLabel, labelOf, commandLabel, halfNumber};
 
 // The half of a count that a byte is.
 pub enum WhichHalf {
     Low,
     High,
-    // No half of a count, as the command port's byte.
+    // No half of a count: the command port's byte, and a held status.
     Neither,
 }
 
@@ -27,15 +27,28 @@ fn which_half(half: Half) -> WhichHalf
     }
 }
 
-// The label of the byte that the next read of the channel gives.
-pub fn label_of(c: Channel) -> Label
-    ensures { λ r. ⌜ r ≡ labelOf c ⌝ }
+fn count_label(c: Channel) -> Label
+    ensures { λ r. ⌜ r ≡ countLabel c ⌝ }
 {
     let l = c.latch;
     let half = which_half(next_half(c));
     Label {
         half,
         held: l.count_is_latched,
+    }
+}
+
+// The label of the byte that the next read of the channel gives.
+pub fn label_of(c: Channel) -> Label
+    ensures { λ r. ⌜ r ≡ labelOf c ⌝ }
+{
+    let s = c.status;
+    if s.status_latch == 0 {
+        return count_label(c);
+    }
+    Label {
+        half: WhichHalf::Neither,
+        held: true,
     }
 }
 

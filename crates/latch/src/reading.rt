@@ -5,6 +5,7 @@ use channel::ReadState;
 use channel::RwMode;
 ghost use mathlib.Core.Path.{_≡_};
 ghost use Rattle.latch.specs.Reading.{halfAt, byteAt, startsWord, afterRead, nextHalf, readByte};
+ghost use mathlib.Core.Bool.{cond};
 
 // Which half of the output latch a read gives.
 pub enum Half {
@@ -82,17 +83,40 @@ fn after_read(l: Latch, rw_mode: RwMode) -> Latch
     }
 }
 
+// A held status stands before the count, and its read leaves the latch alone.
+fn latch_left(counted: bool, l: Latch, rw_mode: RwMode) -> Latch
+    ensures { λ r. ⌜ r ≡ cond counted (afterRead l «rw_mode») l ⌝ }
+{
+    if counted {
+        return after_read(l, rw_mode);
+    }
+    l
+}
+
+fn byte_given(counted: bool, half: Half, value: u16, status: u8) -> u8
+    ensures { λ r. ⌜ r ≡ cond counted (byteAt half value) status ⌝ }
+{
+    if counted {
+        return byte_at(half, value);
+    }
+    status
+}
+
+// No status is held after a read. The record is put together once: docs/PERFORMANCE.md.
 pub fn read_byte(c: Channel) -> ByteRead
     ensures { λ r. ⌜ r ≡ readByte c ⌝ }
 {
     let l = c.latch;
     let w = c.control;
+    let s = c.status;
     let rw_mode = w.rw_mode;
     let half = next_half(c);
-    let byte = byte_at(half, l.output_latch);
-    let latch = after_read(l, rw_mode);
+    let counted = s.status_latch == 0;
+    let byte = byte_given(counted, half, l.output_latch, s.status_latch);
+    let latch = latch_left(counted, l, rw_mode);
     let mut next = c;
     next.latch = latch;
+    next.status.status_latch = 0;
     ByteRead {
         byte,
         channel: next,

@@ -17,11 +17,11 @@ use Rattle.load.specs.Write.{putRegister, stopsOnLowByte, stopped, begun
 
 register-keeps : (c : Channel) (value : ℕ) (s : LoadState) → Kept c (putRegister c value s)
 unfolding putRegister
-register-keeps c value s = record { control-kept = refl; latch-kept = refl; element-kept = refl; ticked-kept = refl }
+register-keeps c value s = record { control-kept = refl; latch-kept = refl; element-kept = refl; status-latch-kept = refl; ticked-kept = refl }
 
 complete-keeps : (c : Channel) → Kept c (completeLoad c)
 unfolding completeLoad
-complete-keeps c = record { control-kept = refl; latch-kept = refl; element-kept = refl; ticked-kept = refl }
+complete-keeps c = record { control-kept = refl; latch-kept = refl; element-kept = refl; status-latch-kept = refl; ticked-kept = refl }
 
 after-keeps : (t : LoadType) (defer : Bool) (c : Channel) → Kept c (enterAfter t defer c)
 after-keeps InitialLoad defer c = kept-state c (firstState (c .reloading .«reload_on_trigger») defer)

@@ -1,4 +1,4 @@
--- What a load cycle does not do: "Output never moves", no latch is made, ended or half read, a held one stays, and so do the control word and the rules that the mode
+-- What a load cycle does not do: "Output never moves", no latch is made, ended or half read, a held one stays, and so do a held status, the control word and the rules that the mode
 -- sets left, the load mask among them. Assumes nothing.
 use mathlib.Core.Path.{_≡_, refl}
 use mathlib.Core.Bool.{true}
@@ -15,17 +15,18 @@ record Stay (c d : Channel) : Type 0 where
   control : d .control ≡ c .control
   latched : d .latch .«count_is_latched» ≡ c .latch .«count_is_latched»
   half : d .latch .«read_state» ≡ c .latch .«read_state»
+  status : d .status .«status_latch» ≡ c .status .«status_latch»
 
 all-stays : (c : Channel) → Stay c c
-all-stays c = record { pins = refl; rules = refl; control = refl; latched = refl; half = refl }
+all-stays c = record { pins = refl; rules = refl; control = refl; latched = refl; half = refl; status = refl }
 
 stay-in : (s : ChannelState) (c : Channel) → Stay c (cycleIn s c)
 unfolding changeChannelState putElement
 stay-in WaitingForReload c = all-stays c
 stay-in WaitingForGate c = all-stays c
-stay-in DeferLoadCycle c = record { pins = refl; rules = refl; control = refl; latched = refl; half = refl }
+stay-in DeferLoadCycle c = record { pins = refl; rules = refl; control = refl; latched = refl; half = refl; status = refl }
 stay-in WaitingForLoadCycle c =
-    record { pins = refl; rules = refl; control = refl; latched = follows-latched (c .latch) _; half = follows-half (c .latch) _ }
+    record { pins = refl; rules = refl; control = refl; latched = follows-latched (c .latch) _; half = follows-half (c .latch) _; status = refl }
 stay-in WaitingForLoadTrigger c = all-stays c
 stay-in (Counting f) c = all-stays c
 
@@ -45,6 +46,9 @@ module _ (c : Channel) where
 
   pub latched-stays : loadCycle c .latch .«count_is_latched» ≡ c .latch .«count_is_latched»
   latched-stays = stay .latched
+
+  pub status-stays : loadCycle c .status .«status_latch» ≡ c .status .«status_latch»
+  status-stays = stay .status
 
   pub half-stays : loadCycle c .latch .«read_state» ≡ c .latch .«read_state»
   half-stays = stay .half

@@ -9,7 +9,7 @@ use Rattle.channel.specs.declared.LoadType.{LoadType}
 use Rattle.channel.specs.declared.LoadType.the-variants.{InitialLoad, SubsequentLoad}
 use Rattle.channel.specs.Record.{withLoad, withDirty}
 use Rattle.channel.specs.Modes.{byMode}
-use Rattle.channel.specs.Shared.{changeChannelState}
+use Rattle.channel.specs.Shared.{changeChannelState, withNullCount}
 
 -- "the waiting state: `DeferLoadCycle` if the board's defer flag is set, else `WaitingForLoadCycle`"
 abbrev pub waitingState : Bool → ChannelState
@@ -41,9 +41,9 @@ completed l =
       armed = armedBy (l .«load_type») (l .armed);
     }
 
--- "A complete load copies the count register to the reload value and sets dirty."
+-- "A complete load copies the count register to the reload value and sets dirty."; by L5 it sets the null-count mark, also where it enters no state
 unfoldable pub completeLoad : Channel → Channel
-completeLoad c = withDirty (withLoad c (completed (c .load))) true
+completeLoad c = withNullCount (withDirty (withLoad c (completed (c .load))) true) true
 
 -- the channel in the state that a first or a later load enters, if it enters one
 abbrev pub enterAfter : LoadType → Bool → Channel → Channel

@@ -5,7 +5,7 @@ use channel::ChannelState;
 use channel::Counter;
 use channel::Latch;
 use channel::ReloadFlag;
-ghost use mathlib.Core.Bool.{true, cond};
+ghost use mathlib.Core.Bool.{true, false, cond};
 ghost use mathlib.Core.Path.{_≡_};
 ghost use Rattle.channel.specs.Shared.{followed};
 ghost use Rattle.load.specs.Cycle.{maskedIn, loadValue, loadCycle};
@@ -85,6 +85,16 @@ fn marked(loaded: bool, dirty: bool) -> bool
     dirty
 }
 
+// The null-count mark goes where the value moves.
+fn still_null(loaded: bool, null_count: bool) -> bool
+    ensures { λ r. ⌜ r ≡ cond loaded false «null_count» ⌝ }
+{
+    if loaded {
+        return false;
+    }
+    null_count
+}
+
 // What the cycle can change is found first, and the record is put together once: docs/PERFORMANCE.md.
 pub fn load_cycle(c: Channel) -> Channel
     ensures { λ r. ⌜ r ≡ loadCycle c ⌝ }
@@ -96,10 +106,13 @@ pub fn load_cycle(c: Channel) -> Channel
     let loaded = state.waits_for_cycle();
     let counter = counter_after(k, value);
     let latch = latch_after(loaded, l, value);
+    let s = c.status;
+    let null_count = still_null(loaded, s.null_count);
     let dirty = marked(loaded, c.dirty);
     let mut next = c;
     next.counter = counter;
     next.latch = latch;
+    next.status.null_count = null_count;
     next.dirty = dirty;
     next
 }

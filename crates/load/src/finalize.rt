@@ -74,6 +74,7 @@ fn complete_load(c: Channel) -> Channel
     let load = complete(l);
     let mut next = c;
     next.load = load;
+    next.status.null_count = true;
     next.dirty = true;
     next
 }

@@ -43,6 +43,7 @@ reloadingOf r m model =
 
 -- "Mode set makes the counting element 0, clears latched, armed and any half read or half load, sets dirty, the first-load flag,
 -- state `WaitingForReload` and cycles in state 0. ... Output latch, count register, reload value, gate and `ticked` stay."
+-- L5: the null-count mark is "set by a mode set", and "Mode set and reset drop a held status"
 unfoldable pub setMode : Channel → ControlWord → PitType → Channel
 setMode c word model =
     record {
@@ -59,5 +60,6 @@ setMode c word model =
       counter = record { «channel_state» = WaitingForReload; «cycles_in_state» = 0; «counting_element» = 0; ticked = c .counter .ticked };
       latch = record { «output_latch» = c .latch .«output_latch»; «count_is_latched» = false; «read_state» = NoRead };
       pins = record { gate = c .pins .gate; output = outputAfter (word .mode) };
+      status = record { «status_latch» = 0; «null_count» = true };
       dirty = true;
     }

@@ -12,6 +12,7 @@ use channel::Pins;
 use channel::PitType;
 use channel::ReadState;
 use channel::Reloading;
+use channel::Status;
 ghost use mathlib.Core.Path.{_≡_};
 ghost use Rattle.mode.specs.Mode.{outputAfter, outputOnReload, reloadOnTrigger, squareMask, loadMask, reloadingOf, setMode};
 
@@ -122,6 +123,10 @@ pub fn set_mode(c: Channel, control: ControlWord, model: PitType) -> Channel
         gate: p.gate,
         output,
     };
+    let status = Status {
+        status_latch: 0,
+        null_count: true,
+    };
     Channel {
         control,
         reloading,
@@ -129,6 +134,7 @@ pub fn set_mode(c: Channel, control: ControlWord, model: PitType) -> Channel
         counter,
         latch,
         pins,
+        status,
         dirty: true,
     }
 }

@@ -110,6 +110,7 @@ standing c s cycles level =
           };
       latch = c .latch;
       pins = record { gate = c .pins .gate; output = level };
+      status = c .status;
       dirty = c .dirty;
     }
 

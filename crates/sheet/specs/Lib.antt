@@ -9,3 +9,5 @@ pub mod Counter
 pub mod CounterTick
 pub mod CounterWrite
 pub mod CounterGate
+pub mod ReadBack
+pub mod NullCount

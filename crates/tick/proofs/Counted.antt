@@ -24,11 +24,11 @@ use Rattle.tick.proofs.Keeps.{counts-keep}
 
 kept-aged : (c : Channel) → Kept c (agedBy 1 c)
 unfolding agedBy
-kept-aged c = record { control-kept = refl; latch-kept = refl; element-kept = refl; ticked-kept = refl }
+kept-aged c = record { control-kept = refl; latch-kept = refl; element-kept = refl; status-latch-kept = refl; ticked-kept = refl }
 
 kept-armed : (c : Channel) (armed : Bool) → Kept c (withArmed c armed)
 unfolding withArmed
-kept-armed c armed = record { control-kept = refl; latch-kept = refl; element-kept = refl; ticked-kept = refl }
+kept-armed c armed = record { control-kept = refl; latch-kept = refl; element-kept = refl; status-latch-kept = refl; ticked-kept = refl }
 
 kept-sent-back : (c : Channel) → Kept c (sentBack c)
 unfolding sentBack

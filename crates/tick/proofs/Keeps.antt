@@ -10,7 +10,7 @@ use Rattle.channel.specs.declared.ChannelState.{ChannelState}
 use Rattle.channel.specs.declared.ChannelState.the-variants.{WaitingForLoadCycle, Counting}
 use Rattle.channel.specs.declared.PitType.{PitType}
 use Rattle.channel.specs.declared.ReloadFlag.the-variants.{Normal, ReloadNextCycle}
-use Rattle.channel.specs.Shared.{isCounting, changeChannelState, changeOutputState, putElement}
+use Rattle.channel.specs.Shared.{isCounting, changeChannelState, changeOutputState, putElement, withNullCount}
 use Rattle.channel.proofs.Follows.{held-follows, follows-latched, follows-half}
 use Rattle.count.specs.Count.{nextElement, count}
 use Rattle.tick.specs.declared.due.Kind.{Kind}
@@ -34,6 +34,7 @@ keeps-then p q =
       load-type-kept = q .load-type-kept ∙ p .load-type-kept;
       latched-kept = q .latched-kept ∙ p .latched-kept;
       half-kept = q .half-kept ∙ p .half-kept;
+      status-latch-kept = q .status-latch-kept ∙ p .status-latch-kept;
       held-kept = λ held. q .held-kept (p .latched-kept ∙ held) ∙ p .held-kept held;
     }
 
@@ -41,9 +42,9 @@ keeps-pick : {c d e : Channel} (b : Bool) → TickKeeps c d → TickKeeps c e �
 keeps-pick true p q = p
 keeps-pick false p q = q
 
--- a channel with another counter, latch, arming, output and mark: of these only the latch is on the list
-abbrev withFew : Channel → Counter → Latch → Bool → Bool → Bool → Channel
-withFew c k l armed level dirty =
+-- a channel with another counter, latch, arming, output and marks: of these only the latch is on the list
+abbrev withFew : Channel → Counter → Latch → Bool → Bool → Bool → Bool → Channel
+withFew c k l armed level null dirty =
     record {
       control = c .control;
       reloading = c .reloading;
@@ -58,15 +59,16 @@ withFew c k l armed level dirty =
       counter = k;
       latch = l;
       pins = record { gate = c .pins .gate; output = level };
+      status = record { «status_latch» = c .status .«status_latch»; «null_count» = null };
       dirty = dirty;
     }
 
-keeps-few : (c : Channel) (k : Counter) (l : Latch) (armed level dirty : Bool)
+keeps-few : (c : Channel) (k : Counter) (l : Latch) (armed level null dirty : Bool)
     → l .«count_is_latched» ≡ c .latch .«count_is_latched»
     → l .«read_state» ≡ c .latch .«read_state»
     → (c .latch .«count_is_latched» ≡ true → l ≡ c .latch)
-    → TickKeeps c (withFew c k l armed level dirty)
-keeps-few c k l armed level dirty latched half held =
+    → TickKeeps c (withFew c k l armed level null dirty)
+keeps-few c k l armed level null dirty latched half held =
     record {
       control-kept = refl;
       reloading-kept = refl;
@@ -77,41 +79,45 @@ keeps-few c k l armed level dirty latched half held =
       load-type-kept = refl;
       latched-kept = latched;
       half-kept = half;
+      status-latch-kept = refl;
       held-kept = held;
     }
 
 -- .. and with its own latch
-keeps-latch : (c : Channel) (k : Counter) (armed level dirty : Bool) → TickKeeps c (withFew c k (c .latch) armed level dirty)
-keeps-latch c k armed level dirty = keeps-few c k (c .latch) armed level dirty refl refl (λ held. refl)
+keeps-latch : (c : Channel) (k : Counter) (armed level null dirty : Bool) → TickKeeps c (withFew c k (c .latch) armed level null dirty)
+keeps-latch c k armed level null dirty = keeps-few c k (c .latch) armed level null dirty refl refl (λ held. refl)
 
 keeps-same : (c : Channel) → TickKeeps c c
-keeps-same c = keeps-latch c _ _ _ _
+keeps-same c = keeps-latch c _ _ _ _ _
 
 keeps-state : (c : Channel) (s : ChannelState) → TickKeeps c (changeChannelState c s)
 unfolding changeChannelState
-keeps-state c s = keeps-latch c _ _ _ _
+keeps-state c s = keeps-latch c _ _ _ _ _
 
 keeps-output : (c : Channel) (level : Bool) → TickKeeps c (changeOutputState c level)
 unfolding changeOutputState
-keeps-output c level = keeps-latch c _ _ _ _
+keeps-output c level = keeps-latch c _ _ _ _ _
 
 keeps-armed : (c : Channel) (armed : Bool) → TickKeeps c (withArmed c armed)
 unfolding withArmed
-keeps-armed c armed = keeps-latch c _ _ _ _
+keeps-armed c armed = keeps-latch c _ _ _ _ _
+
+keeps-null : (c : Channel) (null : Bool) → TickKeeps c (withNullCount c null)
+keeps-null c null = keeps-latch c _ _ _ _ _
 
 keeps-aged : (k : ℕ) (c : Channel) → TickKeeps c (agedBy k c)
 unfolding agedBy
-keeps-aged k c = keeps-latch c _ _ _ _
+keeps-aged k c = keeps-latch c _ _ _ _ _
 
 -- a value put into the element reaches the latch unless that is held
 keeps-put : (c : Channel) (e : ℕ) → TickKeeps c (putElement c e)
 unfolding putElement
 keeps-put c e =
-    keeps-few c _ _ _ _ _ (follows-latched (c .latch) e) (follows-half (c .latch) e) (λ held. held-follows (c .latch) e held)
+    keeps-few c _ _ _ _ _ _ (follows-latched (c .latch) e) (follows-half (c .latch) e) (λ held. held-follows (c .latch) e held)
 
 keeps-count : (c : Channel) → TickKeeps c (count c)
 unfolding count
-keeps-count c = keeps-then (keeps-put c (nextElement c)) (keeps-latch (putElement c (nextElement c)) _ _ _ _)
+keeps-count c = keeps-then (keeps-put c (nextElement c)) (keeps-latch (putElement c (nextElement c)) _ _ _ _ _)
 
 pub counts-keep : (n : ℕ) (c : Channel) → TickKeeps c (times n count c)
 counts-keep zero c = keeps-same c
@@ -127,7 +133,8 @@ keeps-sent-back c = keeps-then (keeps-state c WaitingForLoadCycle) (keeps-output
 keeps-loaded : (level : Bool) (c : Channel) → TickKeeps c (loaded level c)
 unfolding loaded
 keeps-loaded level c =
-    keeps-then (keeps-then (keeps-put c _) (keeps-state _ (Counting Normal))) (keeps-then (keeps-output _ level) (keeps-armed _ true))
+    keeps-then (keeps-then (keeps-put c _) (keeps-then (keeps-state _ (Counting Normal)) (keeps-null _ false)))
+    (keeps-then (keeps-output _ level) (keeps-armed _ true))
 
 keeps-load : (level : Bool) (c : Channel) → TickKeeps c (loadAt level c)
 unfolding loadAt

@@ -3,4 +3,5 @@
 pub mod Keeps
 pub mod Counted
 pub mod Loaded
+pub mod NullCount
 pub mod One

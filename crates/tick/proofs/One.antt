@@ -35,7 +35,7 @@ sent-back : (c : Channel) → NotLoaded c (sentBack c)
 unfolding sentBack changeOutputState changeChannelState
 sent-back c =
     record {
-      nothing-moves = record { control-kept = refl; latch-kept = refl; element-kept = refl; ticked-kept = refl };
+      nothing-moves = record { control-kept = refl; latch-kept = refl; element-kept = refl; status-latch-kept = refl; ticked-kept = refl };
       waits-on = refl;
       goes-high = refl;
     }

@@ -1,5 +1,5 @@
--- What every tick of a channel leaves alone: docs/TICK.md, "One tick of one channel": "control word, gate, load mask, count register, reload value, latched and a
--- half-read word stand".
+-- What every tick of a channel leaves alone: docs/TICK.md, "One tick of one channel": "control word, gate, load mask, count register, reload value, latched, a
+-- held status and a half-read word stand".
 use mathlib.Core.Path.{_≡_}
 use mathlib.Core.Bool.{true}
 use Rattle.channel.specs.declared.Channel.{Channel}
@@ -14,5 +14,6 @@ pub record TickKeeps (before after : Channel) : Type 0 where
   pub load-type-kept : after .load .«load_type» ≡ before .load .«load_type»
   pub latched-kept : after .latch .«count_is_latched» ≡ before .latch .«count_is_latched»
   pub half-kept : after .latch .«read_state» ≡ before .latch .«read_state»
+  pub status-latch-kept : after .status .«status_latch» ≡ before .status .«status_latch»
   -- a held count stays, whatever the element does
   pub held-kept : before .latch .«count_is_latched» ≡ true → after .latch ≡ before .latch

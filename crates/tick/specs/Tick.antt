@@ -11,10 +11,10 @@ use Rattle.channel.specs.declared.PitType.the-variants.{Model8253, Model8254}
 use Rattle.channel.specs.declared.ReloadFlag.the-variants.{Normal, ReloadNextCycle}
 use Rattle.channel.specs.Record.{withLoad, withCounter}
 use Rattle.channel.specs.Modes.{byMode}
-use Rattle.channel.specs.Shared.{isCounting, changeChannelState, changeOutputState, putElement}
+use Rattle.channel.specs.Shared.{isCounting, changeChannelState, changeOutputState}
 use Rattle.channel.specs.Queries.{doesRetrigger}
 use Rattle.count.specs.Count.{count}
-use Rattle.load.specs.Cycle.{loadValue}
+use Rattle.load.specs.Cycle.{moved}
 use Rattle.tick.specs.declared.due.Kind.{Kind}
 use Rattle.tick.specs.declared.due.Kind.the-variants.{Idle, Deferred, Load, Reload, Count}
 use Rattle.tick.specs.Due.{due}
@@ -66,9 +66,9 @@ withArmed c armed =
       armed = armed;
     })
 
--- the load value, as a load cycle by hand moves it, with the output at a level; "A tick that makes a load cycle makes no count"
+-- the value moves, as in a load cycle by hand, with the output at a level; "A tick that makes a load cycle makes no count"
 unfoldable pub loaded : Bool → Channel → Channel
-loaded level c = withArmed (changeOutputState (changeChannelState (putElement c (loadValue c)) (Counting Normal)) level) true
+loaded level c = withArmed (changeOutputState (moved c) level) true
 
 unfoldable pub loadAt : Bool → Channel → Channel
 loadAt level c = cond (neverLoaded c) (sentBack c) (loaded level c)

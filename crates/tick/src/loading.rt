@@ -57,7 +57,8 @@ fn loaded(c: Channel, level: bool) -> Channel
     let value = load::load_value(c);
     let put = c.put_element(value);
     let counting = put.change_channel_state(ChannelState::Counting(ReloadFlag::Normal));
-    let out = counting.change_output_state(level);
+    let whole = counting.mark_null_count(false);
+    let out = whole.change_output_state(level);
     with_armed(out, true)
 }
 

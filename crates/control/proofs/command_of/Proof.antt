@@ -7,7 +7,7 @@ use Rattle.control.proofs.command_of.Tie as tie
 
 returns : tie.Need-returns
 unfolding commandOf
-returns c = simp (eq-eqb _ _ (c .if1 .taken))
+returns c = simp (c .channel-three .ensures, eq-eqb _ _ (c .before .if1 .taken))
 
 returns-2 : tie.Need-returns-2
 unfolding commandOf
@@ -20,4 +20,4 @@ returns-3 c =
     (c .mode-of .ensures, c .before .access-of .ensures, ne-eqb _ _ (c .before .before .if2 .left), ne-eqb _ _ (c .before .before .before .if1 .left))
 
 pub command-of-spec : {M : Type 1} → statement M
-command-of-spec = tie.close (tie.spec returns returns-2 (λ c κs. search needs) (λ c κs. search needs) returns-3)
+command-of-spec = tie.close (tie.spec (λ c κs. search needs) returns returns-2 (λ c κs. search needs) (λ c κs. search needs) returns-3)

@@ -8,12 +8,13 @@ returns : tie.Need-returns
 returns c =
     rw cycle-by-parts
     (simp
-    (c .marked .ensures, c .before .latch-after .ensures, c .before .before .counter-after .ensures, c .before .before .before .waits-for-cycle .ensures, c .before .before .before .before .load-value .ensures))
+    (c .before .marked .ensures, c .before .before .still-null .ensures, c .before .before .before .before .latch-after .ensures, c .before .before .before .before .before .counter-after .ensures, c .before .before .before .before .before .before .waits-for-cycle .ensures, c .before .before .before .before .before .before .before .load-value .ensures))
 
 pub load-cycle-spec : {M : Type 1} → statement M
 load-cycle-spec =
     tie.close
     (tie.spec
+    (λ c κs. search needs)
     (λ c κs. search needs)
     (λ c κs. search needs)
     (λ c κs. search needs)
