@@ -52,12 +52,21 @@ module _ (b : Board) (rest : List ℕ) where
   unfolding boardBytes channelBytes
   own-readable = simp (model-within, flag-within)
 
-  -- whatever lies behind
-  pub readable-before : boardReadable (boardBytes b ++ rest) ≡ true
-  unfolding boardReadable
-  readable-before = simp (first-at, second-at, third-at, all-readable, own-readable)
-
   module _ (r : BoardInRange b) where
+    -- whatever lies behind
+    pub readable-before : boardReadable (boardBytes b ++ rest) ≡ true
+    unfolding boardReadable
+    readable-before =
+        simp (
+          first-at,
+          second-at,
+          third-at,
+          all-readable (channelAt b 0) (r .first .status),
+          all-readable (channelAt b 1) (r .second .status),
+          all-readable (channelAt b 2) (r .third .status),
+          own-readable,
+        )
+
     same-channels : boardIn (boardBytes b ++ rest) .channels ≡ b .channels
     unfolding boardIn
     same-channels =
@@ -74,7 +83,7 @@ module _ (b : Board) (rest : List ℕ) where
 
 -- stored bytes are readable, and spell the board that was stored
 pub board-back : (b : Board) → BoardInRange b → (boardReadable (boardBytes b) ≡ true) × (boardIn (boardBytes b) ≡ b)
-board-back b r = (rw append-nil at (readable-before b []), rw append-nil at (board-back-before b [] r))
+board-back b r = (rw append-nil at (readable-before b [] r), rw append-nil at (board-back-before b [] r))
 
 -- equal bytes are of equal boards
 pub stored-alike : (b d : Board) → BoardInRange b → BoardInRange d → boardBytes b ≡ boardBytes d → b ≡ d

@@ -16,11 +16,11 @@ use Rattle.board_encoding.specs.Places.{recordPlace, modelPlace, divisor
 abbrev pub recordPart : List ℕ → ℕ → List ℕ
 recordPart bytes n = take channelSize (drop (recordPlace n) bytes)
 
--- "the bytes at places 87 and 100 are at most their limits": model and defer flag
+-- "the bytes at places 93 and 106 are at most their limits": model and defer flag
 abbrev pub ownReadable : List ℕ → Bool
 ownReadable bytes = not (ltb 1 (getD bytes modelPlace 0) || ltb 1 (getD bytes deferPlace 0))
 
--- "A board is readable when its three records are and the bytes at places 87 and 100 are at most their limits."
+-- "A board is readable when its three records are and the bytes at places 93 and 106 are at most their limits."
 unfoldable pub boardReadable : List ℕ → Bool
 boardReadable bytes =
     (readable (recordPart bytes 0) && readable (recordPart bytes 1)) && (readable (recordPart bytes 2) && ownReadable bytes)

@@ -1,4 +1,4 @@
--- docs/ENCODING.md, "A board: 105 bytes": where each line of the table begins, behind the one before.
+-- docs/ENCODING.md, "A board: 111 bytes": where each line of the table begins, behind the one before.
 use Prim.Native.Nat.{ℕ, _+_, _*_}
 use Rattle.encoding.specs.Stored.{channelSize}
 

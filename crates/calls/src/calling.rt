@@ -20,7 +20,8 @@ pub fn write_port(b: Board, port: u16, byte: u8, events: &mut [u8], place: usize
     ensures { λ r. ⌜ outcome r (now (events .exit)) ≡ writePort b port byte (now (events .entry)) place ⌝ }
 {
     let owed = b.owed;
-    let turn = finding::write_turn(port, byte, owed.0 != 0);
+    let model = b.model;
+    let turn = finding::write_turn(port, byte, owed.0 != 0, model);
     on_board(b, turn, events, place)
 }
 

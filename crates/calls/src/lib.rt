@@ -15,6 +15,8 @@ pub use calling::reset;
 pub use calling::run;
 pub use calling::set_channel_gate;
 pub use calling::write_port;
+use control::ReadBackWord;
+use ports::reading_back;
 use time::SystemTicks;
 use turn::finding::Turn;
 use turn::finding::Work;
@@ -27,6 +29,7 @@ ghost use Rattle.board.specs.Making.{restored};
 ghost use Rattle.board.specs.Outcome.{Outcome, done};
 ghost use Rattle.clock.specs.Clock.{elapse};
 ghost use Rattle.owed.specs.Worked.{workOff};
+ghost use Rattle.ports.specs.ReadBacks.{readBackWrite};
 ghost use Rattle.turn.specs.Inner.{OnBoard, Bare};
 ghost use Rattle.turn.specs.Turn.{workOn, turned};
 
@@ -108,6 +111,24 @@ pub fn work_off(b: Board, stated: u32, events: &mut [u8], place: usize) -> Answe
     Answered { answer, board }
 }
 
+// Up to three channels at once. Refusal 7.
+fn read_back(b: Board, word: ReadBackWord, events: &mut [u8], place: usize) -> Answered
+    ensures { λ r. ⌜ outcome r (now (events .exit)) ≡ readBackWrite b word (now (events .entry)) place ⌝ }
+{
+    let mut board = b;
+    let c0 = board.channels[0];
+    let c1 = board.channels[1];
+    let c2 = board.channels[2];
+    let done = reading_back::read_back_three(word, c0, c1, c2, events, place);
+    let d0 = done.c0;
+    let d1 = done.c1;
+    let d2 = done.c2;
+    let channels = [d0, d1, d2];
+    let answer = done.answer;
+    board.channels = channels;
+    Answered { answer, board }
+}
+
 fn on_board(b: Board, turn: Turn, events: &mut [u8], place: usize) -> Answered
     requires { ⌜ OnBoard turn ⌝ }
     ensures { λ r. ⌜ outcome r (now (events .exit)) ≡ turned b turn (now (events .entry)) place ⌝ }
@@ -120,6 +141,7 @@ fn on_board(b: Board, turn: Turn, events: &mut [u8], place: usize) -> Answered
             board: restored(b),
         },
         Turn::WorkOff(stated) => work_off(b, stated, events, place),
+        Turn::ReadBack(word) => read_back(b, word, events, place),
         Turn::Untouched => Answered {
             answer: ports::untouched(events, place),
             board: b,

@@ -1,15 +1,18 @@
 -- docs/ENCODING.md, "An answer": the channel that an operation leaves and the three numbers that it answers.
 use Prim.Native.Nat.{ℕ}
+use mathlib.Core.Bool.{cond}
 use Rattle.numbers.specs.Flags.{flagNumber}
 use Rattle.channel.specs.declared.Channel.{Channel}
 use Rattle.channel.specs.declared.PitType.{PitType}
 use Rattle.channel.specs.Fresh.{reset}
 use Rattle.channel.specs.Queries.{getOutputState, getChannelCount, doesChannelRetrigger, isDirty}
 use Rattle.control.specs.declared.Command.{Command}
-use Rattle.control.specs.declared.Command.the-variants.{Nothing, LatchCount, SetMode}
-use Rattle.control.specs.Control.{commandOf}
+use Rattle.control.specs.declared.Command.the-variants.{Nothing, LatchCount, SetMode, ReadBack}
+use Rattle.control.specs.declared.ReadBackWord.{ReadBackWord}
+use Rattle.control.specs.Control.{namesAny, commandOf}
 use Rattle.count.specs.Count.{count}
 use Rattle.latch.specs.Latching.{latchCount}
+use Rattle.latch.specs.ReadBack.{readBack}
 use Rattle.latch.specs.Reading.{readByte}
 use Rattle.latch.specs.Label.{labelOf, halfNumber}
 use Rattle.load.specs.Write.{writeByte}
@@ -27,11 +30,16 @@ answered c a b d = record { channel = c; first = a; second = b; third = d }
 abbrev pub silent : Channel → Made
 silent c = answered c 0 0 0
 
+-- "4 for a read-back"; "the record stands for the channel that the byte names", of a read-back for one of those that it names, if it names one
+abbrev pub readBackMade : Channel → ReadBackWord → Made
+readBackMade c w = cond (namesAny w) (answered (readBack (w .counts) (w .status) c) 4 0 0) (answered c 4 0 0)
+
 -- "the channel that the byte names; 3 for nothing"
 abbrev pub commanded : Channel → Command → PitType → Made
 commanded c Nothing model = answered c 3 0 0
 commanded c (LatchCount n) model = answered (latchCount c) n 0 0
 commanded c (SetMode n w) model = answered (setMode c w model) n 0 0
+commanded c (ReadBack w) model = readBackMade c w
 
 unfoldable pub operate : Channel → Operation → Made
 operate c (WriteByte byte defer) = silent (writeByte c byte defer)
@@ -40,7 +48,7 @@ operate c (SetGate level) = silent (setGate c level)
 operate c Count = silent (count c)
 operate c LoadCycle = silent (loadCycle c)
 operate c Reset = silent (reset c)
-operate c (ControlByte byte model) = commanded c (commandOf byte) model
+operate c (ControlByte byte model) = commanded c (commandOf model byte) model
 operate c GetOutputState = answered c (flagNumber (getOutputState c)) 0 0
 operate c GetChannelCount =
     answered c (getChannelCount c .«count_register») (getChannelCount c .«counting_element») (flagNumber (getChannelCount c .counting))

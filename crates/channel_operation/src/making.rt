@@ -3,9 +3,10 @@ use crate::Operation;
 use channel::Channel;
 use channel::PitType;
 use control::Command;
+use control::ReadBackWord;
 ghost use mathlib.Core.Path.{_≡_};
 ghost use Rattle.numbers.specs.Flags.{flagNumber};
-ghost use Rattle.channel_operation.specs.Made.{answered, silent, commanded, operate};
+ghost use Rattle.channel_operation.specs.Made.{answered, silent, readBackMade, commanded, operate};
 
 // The three numbers are 0 where the operation does not answer.
 pub struct Made {
@@ -78,13 +79,26 @@ fn dirty(c: Channel) -> Made
     )
 }
 
-// The command is opened as document 01 names it: a mode set carries its fields, a latch its channel, nothing returns early.
+// A record has no number: it stands for a channel that the read-back names, if it names one.
+fn read_back(c: Channel, word: ReadBackWord) -> Made
+    ensures { λ r. ⌜ r ≡ readBackMade c word ⌝ }
+{
+    if word.names_any() {
+        return answered(latch::read_back(c, word.counts, word.status), 4, 0, 0);
+    }
+    answered(c, 4, 0, 0)
+}
+
+// The command is opened as document 01 names it: a mode set carries its fields, a latch its channel, a read-back what it asks for, nothing returns early.
 fn commanded(c: Channel, command: Command, model: PitType) -> Made
     ensures { λ r. ⌜ r ≡ commanded c command model ⌝ }
 {
     let Command::SetMode(n, word) = command else {
         let Command::LatchCount(latched) = command else {
-            return answered(c, 3, 0, 0);
+            let Command::ReadBack(named) = command else {
+                return answered(c, 3, 0, 0);
+            };
+            return read_back(c, named);
         };
         return answered(latch::latch_count(c), latched as u16, 0, 0);
     };
@@ -101,7 +115,11 @@ pub fn operate(c: Channel, operation: Operation) -> Made
         Operation::Count => silent(count::count(c)),
         Operation::LoadCycle => silent(load::load_cycle(c)),
         Operation::Reset => silent(c.reset()),
-        Operation::ControlByte(byte, model) => commanded(c, control::command_of(byte), model),
+        Operation::ControlByte(byte, model) => commanded(
+            c,
+            control::command_of(byte, model),
+            model,
+        ),
         Operation::GetOutputState => answered(c, as_number(c.get_output_state()), 0, 0),
         Operation::GetChannelCount => channel_count(c),
         Operation::DoesChannelRetrigger => {

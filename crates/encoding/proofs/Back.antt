@@ -1,5 +1,5 @@
 -- A channel that is stored and loaded again is the same channel, so equal bytes are of equal channels. Assumes nothing.
-use Prim.Native.Nat.{ℕ, _%_, _≤_}
+use Prim.Native.Nat.{ℕ, _%_, _≤_, _<_}
 use mathlib.Core.Path.{_≡_, refl}
 use mathlib.Core.Bool.{Bool, true, false}
 use mathlib.Core.List.{List, [], _++_}
@@ -103,10 +103,20 @@ state-back (Counting ReloadNextCycle) = refl
 byte-within : (n : ℕ) → ltb 255 (n % 256) ≡ false
 byte-within n = le-ltb _ _ (let h : n % 256 ≤ 255 = omega arith in h)
 
-pub all-readable : (c : Channel) (rest : List ℕ) → readable (channelBytes c ++ rest) ≡ true
+pub all-readable : (c : Channel) → c .status .«status_latch» < 256 → (rest : List ℕ) → readable (channelBytes c ++ rest) ≡ true
 unfolding channelBytes readableTo
-all-readable c rest =
-    simp (flag-within, mode-within, access-within, load-state-within, load-type-within, read-state-within, state-within, byte-within)
+all-readable c status rest =
+    simp (
+      flag-within,
+      mode-within,
+      access-within,
+      load-state-within,
+      load-type-within,
+      read-state-within,
+      state-within,
+      byte-within,
+      le-ltb 255 (c .status .«status_latch») (let h : c .status .«status_latch» ≤ 255 = omega arith in h),
+    )
 
 pub same-channel : (c : Channel) → InRange c → (rest : List ℕ) → channelSpelled (channelBytes c ++ rest) ≡ c
 unfolding channelBytes channelSpelled numberAt
@@ -131,7 +141,7 @@ pub load-stored : (c : Channel) → InRange c → (rest : List ℕ) → loadChan
 unfolding loadChannel
 load-stored c r rest =
     let long : channelSize ≤ length (channelBytes c ++ rest) = simp (length-append, bytes-length) (omega arith) in
-    simp (le-ltb _ _ long, all-readable c rest, same-channel c r rest)
+    simp (le-ltb _ _ long, all-readable c (r .status) rest, same-channel c r rest)
 
 -- equal bytes are of equal channels
 pub stored-alike : (c d : Channel) → InRange c → InRange d → channelBytes c ≡ channelBytes d → c ≡ d

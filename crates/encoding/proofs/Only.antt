@@ -95,7 +95,7 @@ module _ (bytes : List ℕ) (all : readable bytes ≡ true) where
       ++ load-state i ∷ load-type i ∷ flag 13 (omega arith) refl i ∷ state i ∷ cycles i
       ++ two 19 (omega arith) refl refl i
       ++ flag 21 (omega arith) refl i ∷ two 22 (omega arith) refl refl i
-      ++ flag 24 (omega arith) refl i ∷ read-state i ∷ flag 26 (omega arith) refl i ∷ flag 27 (omega arith) refl i ∷ flag 28 (omega arith) refl i ∷ []
+      ++ flag 24 (omega arith) refl i ∷ read-state i ∷ flag 26 (omega arith) refl i ∷ flag 27 (omega arith) refl i ∷ flag 28 (omega arith) refl i ∷ getD bytes 29 0 ∷ flag 30 (omega arith) refl i ∷ []
 
   -- the bytes of a record that is readable are those of the channel that it spells
   pub form : channelSize ≤ length bytes → channelBytes (channelSpelled bytes) ≡ take channelSize bytes

@@ -13,6 +13,7 @@ use Rattle.channel.specs.declared.Load.{Load}
 use Rattle.channel.specs.declared.Counter.{Counter}
 use Rattle.channel.specs.declared.Latch.{Latch}
 use Rattle.channel.specs.declared.Pins.{Pins}
+use Rattle.channel.specs.declared.Status.{Status}
 use Rattle.channel.specs.Modes.{modeNumbered}
 use Rattle.encoding.specs.declared.loading.Loaded.{Loaded}
 use Rattle.encoding.specs.declared.loading.Loaded.the-variants.{Whole, Short, Unreadable}
@@ -23,14 +24,14 @@ use Rattle.encoding.specs.Stored.{channelSize}
 abbrev pub limits : List ℕ
 limits =
     5 ∷ 2 ∷ 1 ∷ 1 ∷ 1 ∷ 255 ∷ 255 ∷ 255 ∷ 255 ∷ 255 ∷ 255 ∷ 1 ∷ 1 ∷ 1 ∷ 6 ∷ 255 ∷ 255 ∷ 255 ∷ 255 ∷ 255 ∷ 255 ∷ 1 ∷ 255 ∷ 255 ∷ 1 ∷ 1
-    ∷ 1 ∷ 1 ∷ 1 ∷ []
+    ∷ 1 ∷ 1 ∷ 1 ∷ 255 ∷ 1 ∷ []
 
 -- the first n bytes are at most their limits
 unfoldable pub readableTo : ℕ → List ℕ → Bool
 readableTo zero bytes = true
 readableTo (suc k) bytes = cond (ltb (getD limits k 0) (getD bytes k 0)) false (readableTo k bytes)
 
--- "A record is readable when all its 29 bytes are."
+-- "A record is readable when all its 31 bytes are."
 abbrev pub readable : List ℕ → Bool
 readable = readableTo channelSize
 
@@ -75,6 +76,9 @@ latchSpelled bytes =
 abbrev pub pinsSpelled : List ℕ → Pins
 pinsSpelled bytes = record { gate = flagAt bytes 26; output = flagAt bytes 27 }
 
+abbrev pub statusSpelled : List ℕ → Status
+statusSpelled bytes = record { «status_latch» = getD bytes 29 0; «null_count» = flagAt bytes 30 }
+
 unfoldable pub channelSpelled : List ℕ → Channel
 channelSpelled bytes =
     record {
@@ -84,6 +88,7 @@ channelSpelled bytes =
       counter = counterSpelled bytes;
       latch = latchSpelled bytes;
       pins = pinsSpelled bytes;
+      status = statusSpelled bytes;
       dirty = flagAt bytes 28;
     }
 

@@ -9,3 +9,4 @@ pub record InRange (c : Channel) : Type 0 where
   pub cycles : c .counter .«cycles_in_state» < 4294967296
   pub element : c .counter .«counting_element» < 65536
   pub held : c .latch .«output_latch» < 65536
+  pub status : c .status .«status_latch» < 256

@@ -10,12 +10,13 @@ use Rattle.channel.specs.declared.Load.{Load}
 use Rattle.channel.specs.declared.Counter.{Counter}
 use Rattle.channel.specs.declared.Latch.{Latch}
 use Rattle.channel.specs.declared.Pins.{Pins}
+use Rattle.channel.specs.declared.Status.{Status}
 use Rattle.channel.specs.Modes.{modeNumber}
 use Rattle.encoding.specs.Codes.{accessByte, loadStateByte, loadTypeByte, readStateByte, stateByte}
 
--- "A channel's record: 29 bytes"
+-- "A channel's record: 31 bytes"
 abbrev pub channelSize : ℕ
-channelSize = 29
+channelSize = 31
 
 -- places 0 to 2
 abbrev pub controlBytes : ControlWord → List ℕ
@@ -44,8 +45,12 @@ latchBytes l = twoBytes (l .«output_latch») ++ flagNumber (l .«count_is_latch
 abbrev pub pinsBytes : Pins → List ℕ
 pinsBytes p = flagNumber (p .gate) ∷ flagNumber (p .output) ∷ []
 
+-- places 29 and 30; "0 for none" of the status latch is as the record has it
+abbrev pub statusBytes : Status → List ℕ
+statusBytes s = s .«status_latch» ∷ flagNumber (s .«null_count») ∷ []
+
 -- place 28 is dirty
 unfoldable pub channelBytes : Channel → List ℕ
 channelBytes c =
     controlBytes (c .control) ++ reloadingBytes (c .reloading) ++ loadBytes (c .load) ++ counterBytes (c .counter) ++ latchBytes (c .latch)
-    ++ pinsBytes (c .pins) ++ flagNumber (c .dirty) ∷ []
+    ++ pinsBytes (c .pins) ++ flagNumber (c .dirty) ∷ statusBytes (c .status)

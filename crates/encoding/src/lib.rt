@@ -8,4 +8,4 @@ pub use storing::channel_bytes;
 pub use storing::put_front;
 
 // How many bytes a channel's record has.
-pub const CHANNEL_SIZE: usize = 29;
+pub const CHANNEL_SIZE: usize = 31;

@@ -9,11 +9,12 @@ use channel::Latch;
 use channel::Load;
 use channel::Pins;
 use channel::Reloading;
+use channel::Status;
 ghost use mathlib.Core.Path.{_≡_};
 ghost use Prim.Native.Nat.{_≤_};
 ghost use lib.ListN.{length};
 ghost use Rattle.encoding.specs.Stored.{channelSize};
-ghost use Rattle.encoding.specs.Loaded.{controlSpelled, reloadingSpelled, loadSpelled, counterSpelled, latchSpelled, pinsSpelled, channelSpelled, loadChannel};
+ghost use Rattle.encoding.specs.Loaded.{controlSpelled, reloadingSpelled, loadSpelled, counterSpelled, latchSpelled, pinsSpelled, statusSpelled, channelSpelled, loadChannel};
 ghost use Rattle.encoding.specs.Inner.{isRecord, recordIn};
 
 // What loading a channel finds.
@@ -55,6 +56,8 @@ const LIMITS: [u8; CHANNEL_SIZE] = [
     1,
     1,
     1,
+    1,
+    255,
     1,
 ];
 
@@ -154,6 +157,16 @@ fn pins_spelled(bytes: &[u8]) -> Pins
     }
 }
 
+fn status_spelled(bytes: &[u8]) -> Status
+    requires { ⌜ channelSize ≤ length (now bytes) ⌝ }
+    ensures { λ r. ⌜ r ≡ statusSpelled (now (bytes .entry)) ⌝ }
+{
+    Status {
+        status_latch: bytes[29],
+        null_count: codes::flag_coded(bytes[30]),
+    }
+}
+
 fn channel_spelled(bytes: &[u8]) -> Channel
     requires { ⌜ channelSize ≤ length (now bytes) ⌝ }
     ensures { λ r. ⌜ r ≡ channelSpelled (now (bytes .entry)) ⌝ }
@@ -165,6 +178,7 @@ fn channel_spelled(bytes: &[u8]) -> Channel
     let latch = latch_spelled(bytes);
     let pins = pins_spelled(bytes);
     let dirty = codes::flag_coded(bytes[28]);
+    let status = status_spelled(bytes);
     Channel {
         control,
         reloading,
@@ -172,6 +186,7 @@ fn channel_spelled(bytes: &[u8]) -> Channel
         counter,
         latch,
         pins,
+        status,
         dirty,
     }
 }

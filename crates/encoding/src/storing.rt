@@ -4,7 +4,7 @@ use crate::codes;
 use channel::Channel;
 ghost use mathlib.Core.Path.{_≡_};
 ghost use lib.ListN.{length};
-ghost use Rattle.encoding.specs.Stored.{controlBytes, reloadingBytes, loadBytes, counterBytes, latchBytes, pinsBytes, channelBytes};
+ghost use Rattle.encoding.specs.Stored.{controlBytes, reloadingBytes, loadBytes, counterBytes, latchBytes, pinsBytes, statusBytes, channelBytes};
 ghost use Rattle.encoding.specs.Front.{fits, putFront};
 
 fn control_bytes(c: Channel) -> [u8; 3]
@@ -92,6 +92,13 @@ fn pins_bytes(c: Channel) -> [u8; 2]
     [numbers::flag_byte(p.gate), numbers::flag_byte(p.output)]
 }
 
+fn status_bytes(c: Channel) -> [u8; 2]
+    ensures { λ r. ⌜ r ≡ statusBytes (c .status) ⌝ }
+{
+    let s = c.status;
+    [s.status_latch, numbers::flag_byte(s.null_count)]
+}
+
 pub fn channel_bytes(c: Channel) -> [u8; CHANNEL_SIZE]
     ensures { λ r. ⌜ r ≡ channelBytes c ⌝ }
 {
@@ -102,6 +109,7 @@ pub fn channel_bytes(c: Channel) -> [u8; CHANNEL_SIZE]
     let t = latch_bytes(c);
     let p = pins_bytes(c);
     let d = numbers::flag_byte(c.dirty);
+    let s = status_bytes(c);
     [
         w[0],
         w[1],
@@ -132,6 +140,8 @@ pub fn channel_bytes(c: Channel) -> [u8; CHANNEL_SIZE]
         p[0],
         p[1],
         d,
+        s[0],
+        s[1],
     ]
 }
 

@@ -31,7 +31,7 @@ ask-or true b n q o events place is = refl
 ask-or false b n q o events place is = is
 
 pub part-made : (b : Board) (op : Operation) (events : List ℕ) (place : ℕ)
-    → operate b op events place ≡ inNumbers (parted b (partOf (owes b) op) events place)
+    → operate b op events place ≡ inNumbers (parted b (partOf (owes b) (b .model) op) events place)
 unfolding operate partOf getOutputState getChannelCount doesChannelRetrigger isDirty
 part-made b (WritePort port x) events place = ap inNumbers (write-is b events place port x)
 part-made b (ReadPort port) events place = ap inNumbers (read-is b port .same events place)

@@ -7,6 +7,7 @@ use mathlib.Core.Path.{_≡_}
 use lib.Dec.{ltb}
 use Rattle.refusal.specs.declared.Refusal.the-variants.{ChannelAbove2}
 use Rattle.refusal.specs.Reply.{accepted}
+use Rattle.channel.specs.declared.PitType.{PitType}
 use Rattle.channel.specs.declared.queries.DirtyAnswer.{DirtyAnswer}
 use Rattle.channel.specs.Queries as channel
 use Rattle.board.specs.declared.Board.{Board}
@@ -32,22 +33,22 @@ use Rattle.in_bytes.specs.Called.{stored}
 abbrev pub askPart : ℕ → Query → Part
 askPart channel q = cond (ltb 2 channel) (Turned (refuse ChannelAbove2)) (Ask channel q)
 
--- the part of each operation, for a board that owes ticks or owes none
-unfoldable pub partOf : Bool → Operation → Part
-partOf owing (WritePort port byte) = Turned (writeTurn owing (portOf port) byte)
-partOf owing (ReadPort port) = Turned (readTurn (portOf port))
-partOf owing (SetChannelGate channel level) = Turned (gateTurn owing channel level)
-partOf owing (Counts channel number) = Turned (countsTurn channel number)
-partOf owing (LoadCycle channel) = Turned (loadCycleTurn channel)
-partOf owing (CatchUp given) = Turned (catchUpTurn given)
-partOf owing (Run given) = Turned (runTurn given)
-partOf owing Reset = Turned (resetTurn owing)
-partOf owing (GetOutputState channel) = askPart channel query.OutputState
-partOf owing (GetChannelCount channel) = askPart channel query.ChannelCount
-partOf owing (DoesChannelRetrigger channel) = askPart channel query.Retriggers
-partOf owing (IsDirty channel) = askPart channel query.IsDirty
-partOf owing GetTimerAccum = TimerAccum
-partOf owing (WorkOff stated) = Turned (turn.WorkOff stated)
+-- the part of each operation, for a board of a model that owes ticks or owes none
+unfoldable pub partOf : Bool → PitType → Operation → Part
+partOf owing model (WritePort port byte) = Turned (writeTurn owing model (portOf port) byte)
+partOf owing model (ReadPort port) = Turned (readTurn (portOf port))
+partOf owing model (SetChannelGate channel level) = Turned (gateTurn owing channel level)
+partOf owing model (Counts channel number) = Turned (countsTurn channel number)
+partOf owing model (LoadCycle channel) = Turned (loadCycleTurn channel)
+partOf owing model (CatchUp given) = Turned (catchUpTurn given)
+partOf owing model (Run given) = Turned (runTurn given)
+partOf owing model Reset = Turned (resetTurn owing)
+partOf owing model (GetOutputState channel) = askPart channel query.OutputState
+partOf owing model (GetChannelCount channel) = askPart channel query.ChannelCount
+partOf owing model (DoesChannelRetrigger channel) = askPart channel query.Retriggers
+partOf owing model (IsDirty channel) = askPart channel query.IsDirty
+partOf owing model GetTimerAccum = TimerAccum
+partOf owing model (WorkOff stated) = Turned (turn.WorkOff stated)
 
 -- what is asked of a channel leaves the board and the event bytes as they are ..
 abbrev pub answers : Board → Value → List ℕ → Outcome

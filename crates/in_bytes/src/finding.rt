@@ -1,5 +1,6 @@
 // An operation of a host with the part of the board found that it is about. What a trace has too is found by `turn`.
 use board_operation::Operation;
+use channel::PitType;
 use refusal::Refusal;
 use turn::finding;
 use turn::finding::Turn;
@@ -30,12 +31,14 @@ fn ask_part(channel: u16, query: Query) -> Part
     Part::Ask(channel as u8, query)
 }
 
-// For a board that owes ticks, or owes none.
-pub fn part_of(operation: Operation, owing: bool) -> Part
-    ensures { λ r. ⌜ FindsPart (partOf owing operation) r ⌝ }
+// For a board of a model that owes ticks, or owes none.
+pub fn part_of(operation: Operation, owing: bool, model: PitType) -> Part
+    ensures { λ r. ⌜ FindsPart (partOf owing model operation) r ⌝ }
 {
     match operation {
-        Operation::WritePort(port, byte) => { Part::Turned(finding::write_turn(port, byte, owing)) }
+        Operation::WritePort(port, byte) => {
+            Part::Turned(finding::write_turn(port, byte, owing, model))
+        }
         Operation::ReadPort(port) => Part::Turned(finding::read_turn(port)),
         Operation::SetChannelGate(channel, level) => {
             Part::Turned(finding::gate_turn(channel as usize, level, owing))

@@ -1,4 +1,4 @@
-// A board that stands in lent bytes. Only the part that an operation is about is read and written: a channel's record, the board's time, or, for a reset and ticks
+// A board that stands in lent bytes. Only the part that an operation is about is read and written: a channel's record, the board's time, or, for a reset, a read-back and ticks
 // worked off, the three channels and the owed ticks.
 //
 // The parts stand here, taken out of the bytes and put back. finding.rt finds the part that an operation is about, working.rt does the operation. The rules themselves are those of
@@ -126,7 +126,7 @@ fn put_channel(bytes: &mut [u8], n: usize, c: Channel)
     text::put(bytes, CHANNEL_SIZE * n, &part);
 }
 
-// The three records and the owed ticks: what a reset and ticks worked off change.
+// The three records and the owed ticks: what a reset and ticks worked off change; a read-back puts the ticks back as they were.
 fn put_channels(bytes: &mut [u8], c0: Channel, c1: Channel, c2: Channel, owed: TimerTicks)
     requires { ⌜ HoldsBoard (now bytes) ⌝ }
     ensures { λ _. ⌜ now (bytes .exit) ≡ stored (owing (boardIn (now (bytes .entry))) (owed .0) (c0 ∷ c1 ∷ c2 ∷ [])) (now (bytes .entry)) ⌝ }

@@ -21,6 +21,8 @@ use board_operation::answering::Numbers;
 use board_operation::asked::Asked;
 use board_operation::numbers_of;
 use board_operation::saying;
+use control::ReadBackWord;
+use ports::reading_back;
 use time::SystemTicks;
 use turn::finding::Turn;
 use turn::finding::Work;
@@ -115,6 +117,23 @@ fn work_off(bytes: &mut [u8], stated: u32, events: &mut [u8], place: usize) -> N
     numbers_of(answer)
 }
 
+fn read_back(bytes: &mut [u8], word: ReadBackWord, events: &mut [u8], place: usize) -> Numbers
+    requires { ⌜ HoldsBoard (now bytes) ⌝ }
+    ensures { λ r. ⌜ told r (now (bytes .exit)) (now (events .exit)) ≡ written (turned (boardIn (now (bytes .entry))) (Turn.ReadBack word) (now (events .entry)) place) (now (bytes .entry)) ⌝ }
+{
+    let c0 = channel_in(bytes, 0);
+    let c1 = channel_in(bytes, 1);
+    let c2 = channel_in(bytes, 2);
+    let owed = owed_in(bytes);
+    let done = reading_back::read_back_three(word, c0, c1, c2, events, place);
+    let answer = done.answer;
+    let d0 = done.c0;
+    let d1 = done.c1;
+    let d2 = done.c2;
+    put_channels(bytes, d0, d1, d2, owed);
+    numbers_of(answer)
+}
+
 // A turn's channel is one of the board's.
 fn turn_in(bytes: &mut [u8], turn: Turn, events: &mut [u8], place: usize) -> Numbers
     requires { ⌜ OnBoard turn ⌝ }
@@ -126,6 +145,7 @@ fn turn_in(bytes: &mut [u8], turn: Turn, events: &mut [u8], place: usize) -> Num
         Turn::Elapse(given, next, defers) => elapse(bytes, given, next, defers),
         Turn::Reset => reset(bytes),
         Turn::WorkOff(stated) => work_off(bytes, stated, events, place),
+        Turn::ReadBack(word) => read_back(bytes, word, events, place),
         Turn::Untouched => numbers_of(ports::untouched(events, place)),
         Turn::Say(answer) => numbers_of(answer),
     }
@@ -156,7 +176,8 @@ fn make(operation: Operation, bytes: &mut [u8], events: &mut [u8], place: usize)
     ensures { λ r. ⌜ told r (now (bytes .exit)) (now (events .exit)) ≡ operated (operate (boardIn (now (bytes .entry))) operation (now (events .entry)) place) (now (bytes .entry)) ⌝ }
 {
     let owed = owed_in(bytes);
-    let part = part_of(operation, owed.0 != 0);
+    let model = model_in(bytes);
+    let part = part_of(operation, owed.0 != 0, model);
     match part {
         Part::Turned(turn) => turn_in(bytes, turn, events, place),
         Part::Ask(n, query) => ask(bytes, n, query),

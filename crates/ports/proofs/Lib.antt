@@ -1,3 +1,4 @@
 pub mod Below
 pub mod CommandRead
 pub mod Settling
+pub mod ReadingBacks

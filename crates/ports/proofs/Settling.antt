@@ -20,11 +20,11 @@ use Rattle.ports.specs.declared.Settled.{Settled}
 use Rattle.ports.specs.Settled.{settledOn}
 use Rattle.ports.specs.Settle.{callReply, boardAfter, settle, untouched}
 
-after-holds : (P : Board → Type 0) (reply : Reply ℕ) (old new : Board) → P old → P new → P (boardAfter reply old new)
+pub after-holds : (P : Board → Type 0) (reply : Reply ℕ) (old new : Board) → P old → P new → P (boardAfter reply old new)
 after-holds P (refused number) old new p q = p
 after-holds P (accepted place) old new p q = q
 
-after-taken : (reply : Reply ℕ) (old new : Board) (value : Value) → callReply reply ≡ accepted value → boardAfter reply old new ≡ new
+pub after-taken : (reply : Reply ℕ) (old new : Board) (value : Value) → callReply reply ≡ accepted value → boardAfter reply old new ≡ new
 after-taken (refused number) old new value took = absurd (refused-not number value took)
 after-taken (accepted place) old new value took = refl
 

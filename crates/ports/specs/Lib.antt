@@ -3,4 +3,5 @@ pub mod Settle
 pub mod Settled
 pub mod Gates
 pub mod Reads
+pub mod ReadBacks
 pub mod Writes

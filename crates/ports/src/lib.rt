@@ -1,6 +1,7 @@
-// Ports by their numbers, and what the calls that may raise an event share: a channel's new record, and the event of its output where there is one. No board goes in or out: its
+// Ports by their numbers, and what the calls that may raise an event share: a channel's new record, and the event of its output where there is one; and the read-back of up to three channels. No board goes in or out: its
 // owner puts the record back at its place.
 pub mod port;
+pub mod reading_back;
 
 use board::Answer;
 use channel::Channel;

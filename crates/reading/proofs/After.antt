@@ -17,7 +17,7 @@ use Rattle.reading.proofs.Spelling.{left-below, left-good}
 use Rattle.reading.proofs.Stands.{Stands, counted-stands}
 use Rattle.reading.proofs.Passing.{all-pass}
 
-pub begins-after : (b : Board) (i : ℕ) (bcd : Bool) (v : ℕ) → Begins b i bcd v → (os : List Operation) → AllMayPass i (acceptedOf b os) → NoLoads i b os
+pub begins-after : (b : Board) (i : ℕ) (bcd : Bool) (v : ℕ) → Begins b i bcd v → (os : List Operation) → AllMayPass (b .model) i (acceptedOf b os) → NoLoads i b os
     → Begins (steps b os) i bcd (remaining bcd v (countsOn i b os))
 begins-after b i bcd v begins os may unloaded =
     let p : Counted (NoLoads i b os) (countsOn i b os) (channelAt b i) (channelAt (steps b os) i) =

@@ -100,7 +100,7 @@ reset-begins b i on took =
     rw (reset-leaves b (took .0) (took .1)) (fresh-record (restored b) i (channelAt b i .pins .gate) on (restored-three b) (restored-at b i on))
 
 module _ (b : Board) (three : length (b .channels) ≡ 3) (i : ℕ) (on : i < 3) where
-  pub mode-begins : (x : ℕ) (events : List ℕ) (place : ℕ) (word : ControlWord) → commandOf x ≡ SetMode i word → word .«rw_mode» ≡ LsbMsb
+  pub mode-begins : (x : ℕ) (events : List ℕ) (place : ℕ) (word : ControlWord) → commandOf (b .model) x ≡ SetMode i word → word .«rw_mode» ≡ LsbMsb
       → IsAccepted b (controlWrite x events place)
       → Begins (step b (controlWrite x events place) .board) i (word .«bcd_mode») 0
   unfolding setMode
@@ -109,7 +109,7 @@ module _ (b : Board) (three : length (b .channels) ≡ 3) (i : ℕ) (on : i < 3)
       command-turn b three i on x events place (SetMode i word) (setMode (channelAt b i) word (b .model)) sets refl took in
       record {
         on-board = on;
-        may = ap mayBegin at ∙ may-begin (setMode (channelAt b i) word (b .model)) refl both refl;
+        may = ap mayBegin at ∙ may-begin (setMode (channelAt b i) word (b .model)) refl refl both refl;
         radix = ap (λ (c : Channel). c .control .«bcd_mode») at;
         element = ap (λ (c : Channel). c .counter .«counting_element») at;
         four-digits = λ is. zero-good;

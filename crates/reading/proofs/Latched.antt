@@ -22,8 +22,8 @@ pub record Latched (b : Board) (i : ℕ) (calls : Calls) (word : ℕ) : Type 0 w
   pub on-board : i < 3
   pub three-channels : length (latched b i calls .channels) ≡ 3
   pub holds : Holds word NoRead (channelAt (latched b i calls) i)
-  pub after-may : AllMayPass i (acceptedOf (latched b i calls) (calls .after))
-  pub between-may : AllMayPass i (acceptedOf (halfRead b i calls) (calls .between))
+  pub after-may : AllMayPass (latched b i calls .model) i (acceptedOf (latched b i calls) (calls .after))
+  pub between-may : AllMayPass (halfRead b i calls .model) i (acceptedOf (halfRead b i calls) (calls .between))
 
 module _ {b : Board} {i : ℕ} {calls : Calls} {word : ℕ} (l : Latched b i calls word) where
   pub passed-first : Counted (NoLoads i (latched b i calls) (calls .after)) (countsOn i (latched b i calls) (calls .after)) (channelAt (latched b i calls) i) (channelAt (atFirst b i calls) i)

@@ -6,6 +6,7 @@ use Rattle.channel.specs.declared.RwMode.{RwMode}
 use Rattle.channel.specs.declared.RwMode.the-variants.{Lsb, Msb, LsbMsb}
 use Rattle.channel.specs.declared.ReadState.{ReadState}
 use Rattle.channel.specs.declared.ReadState.the-variants.{NoRead, ReadLsb}
+use Rattle.latch.specs.Status.{noStatus}
 use Rattle.latch.specs.Reading.{startsWord}
 use Rattle.reading.specs.Beginning.{mayBegin}
 
@@ -19,9 +20,19 @@ starts-unless : (latched starts : Bool) → cond latched false starts ≡ true �
 starts-unless true starts e = absurd (false≢true e)
 starts-unless false starts e = (refl, e)
 
+only-if : (none starts : Bool) → cond none starts false ≡ true → (none ≡ true) × (starts ≡ true)
+only-if true starts e = (refl, e)
+only-if false starts e = absurd (false≢true e)
+
 module _ (c : Channel) (may : mayBegin c ≡ true) where
+  started : (noStatus c ≡ true) × (cond (c .latch .«count_is_latched») false (startsWord (c .latch .«read_state») (c .control .«rw_mode»)) ≡ true)
+  started = only-if (noStatus c) (cond (c .latch .«count_is_latched») false (startsWord (c .latch .«read_state») (c .control .«rw_mode»))) may
+
+  pub none-held : noStatus c ≡ true
+  none-held = started .0
+
   opened : (c .latch .«count_is_latched» ≡ false) × (startsWord (c .latch .«read_state») (c .control .«rw_mode») ≡ true)
-  opened = starts-unless (c .latch .«count_is_latched») (startsWord (c .latch .«read_state») (c .control .«rw_mode»)) may
+  opened = starts-unless (c .latch .«count_is_latched») (startsWord (c .latch .«read_state») (c .control .«rw_mode»)) (started .1)
 
   pub not-latched : c .latch .«count_is_latched» ≡ false
   not-latched = opened .0
@@ -33,5 +44,5 @@ module _ (c : Channel) (may : mayBegin c ≡ true) where
   no-half-read = starts-fresh (c .latch .«read_state») (c .control .«rw_mode») (opened .1) .1
 
 -- and the other way round
-pub may-begin : (c : Channel) → c .latch .«count_is_latched» ≡ false → c .control .«rw_mode» ≡ LsbMsb → c .latch .«read_state» ≡ NoRead → mayBegin c ≡ true
-may-begin c free access whole = simp (free, access, whole)
+pub may-begin : (c : Channel) → noStatus c ≡ true → c .latch .«count_is_latched» ≡ false → c .control .«rw_mode» ≡ LsbMsb → c .latch .«read_state» ≡ NoRead → mayBegin c ≡ true
+may-begin c none free access whole = simp (none, free, access, whole)

@@ -10,6 +10,7 @@ use borrow.Author.Tests.{eqb-true, eqb-false}
 use Rattle.refusal.specs.Reply.{Reply, refused, accepted}
 use Rattle.numbers.specs.Times.{times}
 use Rattle.channel.specs.declared.Channel.{Channel}
+use Rattle.channel.specs.declared.PitType.{PitType}
 use Rattle.channel.proofs.Keeps.{kept-dirty}
 use Rattle.count.specs.Count.{count}
 use Rattle.load.specs.Write.{writeByte}
@@ -37,6 +38,7 @@ use Rattle.step.specs.Time.{ifAccepted}
 use Rattle.step.specs.Touched.{Touches}
 use Rattle.refusal.proofs.Apart.{refused-not}
 use Rattle.step.proofs.Owing.{by-owed}
+use Rattle.step.proofs.Kept.{settings-kept}
 use Rattle.step.proofs.Leaves.{refused-leaves}
 use Rattle.step.proofs.Accepted.{by-reply}
 use Rattle.step.proofs.Made.{ticks-made}
@@ -66,7 +68,7 @@ module _ (b : Board) (three : length (b .channels) ≡ 3) (i : ℕ) (on : i < 3)
   stays-counted : (outcome : Outcome) → channelAt (outcome .board) i ≡ channelAt b i → After 0 outcome
   stays-counted outcome stays = subst (λ (d : Channel). Counted (Unloaded i b 0) 0 (channelAt b i) d) (sym stays) (counted-none (channelAt b i))
 
-  leaves : (o : Operation) → (Touches o i → ⊥) → After 0 (step b o)
+  leaves : (o : Operation) → (Touches (b .model) o i → ⊥) → After 0 (step b o)
   leaves o other = stays-counted (step b o) (untouched-stays b i o other)
 
   -- a call that is refused while ticks are owed
@@ -79,7 +81,7 @@ module _ (b : Board) (three : length (b .channels) ≡ 3) (i : ℕ) (on : i < 3)
   on-channel : (events : List ℕ) (outcome : Outcome) → After 0 outcome → After 0 (onChannel b i events outcome)
   on-channel events outcome p = by-channel (After 0) b i events outcome (counted-none (channelAt b i)) (λ on. p)
 
-  write-passes : (port : Port) (byte : ℕ) (events : List ℕ) (place : ℕ) → MayWrite i port byte → After 0 (writeTo b port byte events place)
+  write-passes : (port : Port) (byte : ℕ) (events : List ℕ) (place : ℕ) → MayWrite (b .model) i port byte → After 0 (writeTo b port byte events place)
   write-passes (Data n) byte events place may =
       by-same i n (After 0 (writeTo b (Data n) byte events place))
       (λ same.
@@ -133,7 +135,7 @@ module _ (b : Board) (three : length (b .channels) ≡ 3) (i : ℕ) (on : i < 3)
   work-passes made outcome is =
       subst (λ (d : Board). Counted (Unloaded i b made) (takenIn i b made) (channelAt b i) (channelAt d i)) (sym is) (ticks-counted b i on made)
 
-  passes : (o : Operation) → MayPass i o → IsAccepted b o → Counted (NoLoad i b o) (countsBy i b o) (channelAt b i) (channelAt (step b o .board) i)
+  passes : (o : Operation) → MayPass (b .model) i o → IsAccepted b o → Counted (NoLoad i b o) (countsBy i b o) (channelAt b i) (channelAt (step b o .board) i)
   unfolding writePort
   passes (WritePort port byte events place) may took = write-passes (portOf port) byte events place may
   passes (ReadPort port) may took = leaves (ReadPort port) may
@@ -159,22 +161,23 @@ module _ (b : Board) (three : length (b .channels) ≡ 3) (i : ℕ) (on : i < 3)
       let none : countsIn i b o ≡ 0 = ap (λ (reply : Reply Value). ifAccepted reply (countsBy i b o)) e in
       rw (none, refused-leaves b o number e .0) (counted-none (channelAt b i))
 
-  pub accepted-passes : (o : Operation) → MayPass i o → IsAccepted b o → Passed o
+  pub accepted-passes : (o : Operation) → MayPass (b .model) i o → IsAccepted b o → Passed o
   accepted-passes o may took =
       let all : countsIn i b o ≡ countsBy i b o = ap (λ (reply : Reply Value). ifAccepted reply (countsBy i b o)) (took .1) in
       rw all (passes o may took)
 
   -- the first call of a list, of which the accepted ones may pass, and what is left of the list
-  first-passes : (o : Operation) (os : List Operation) → AllMayPass i (acceptedOf b (o ∷ os)) → Passed o × AllMayPass i (acceptedOf (step b o .board) os)
+  first-passes : (o : Operation) (os : List Operation) → AllMayPass (b .model) i (acceptedOf b (o ∷ os)) → Passed o × AllMayPass (b .model) i (acceptedOf (step b o .board) os)
   first-passes o os =
       let later = acceptedOf (step b o .board) os in
-      by-reply b o (λ (reply : Reply Value). AllMayPass i (unlessRefused reply later (o ∷ later)) → Passed o × AllMayPass i later)
+      by-reply b o (λ (reply : Reply Value). AllMayPass (b .model) i (unlessRefused reply later (o ∷ later)) → Passed o × AllMayPass (b .model) i later)
       (λ number e may. (refused-passes o number e, may))
       (λ value e may. (accepted-passes o (may .0) (value, e), may .1))
 
-pub all-pass : (b : Board) → length (b .channels) ≡ 3 → (i : ℕ) → i < 3 → (os : List Operation) → AllMayPass i (acceptedOf b os)
+pub all-pass : (b : Board) → length (b .channels) ≡ 3 → (i : ℕ) → i < 3 → (os : List Operation) → AllMayPass (b .model) i (acceptedOf b os)
     → Counted (NoLoads i b os) (countsOn i b os) (channelAt b i) (channelAt (steps b os) i)
 all-pass b three i on [] may = counted-none (channelAt b i)
 all-pass b three i on (o ∷ os) may =
     let first = first-passes b three i on o os may in
-    counted-then (countsIn i b o) (countsOn i (step b o .board) os) (first .0) (all-pass (step b o .board) (step-three b three o) i on os (first .1))
+    let later = subst (λ (model : PitType). AllMayPass model i (acceptedOf (step b o .board) os)) (sym (settings-kept b o .0)) (first .1) in
+    counted-then (countsIn i b o) (countsOn i (step b o .board) os) (first .0) (all-pass (step b o .board) (step-three b three o) i on os later)

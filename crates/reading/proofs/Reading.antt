@@ -1,12 +1,13 @@
 -- A reading of demand 3, turn by turn: what its channel counts, holds and gives. Assumes nothing.
 use Prim.Native.Nat.{ℕ, _+_}
 use mathlib.Core.Bool.{Bool}
-use mathlib.Core.Path.{_≡_, refl}
+use mathlib.Core.Path.{_≡_, refl, _∙_}
 use Rattle.control.specs.declared.Command.the-variants.{LatchCount}
 use Rattle.latch.specs.Latching.{latchCount}
 use Rattle.latch.specs.Reading.{readByte}
 use Rattle.board.specs.declared.Board.{Board}
 use Rattle.board.specs.Board.{channelAt}
+use Rattle.step.proofs.Kept.{settings-kept, steps-model}
 use Rattle.step.proofs.Three.{step-three}
 use Rattle.reading.specs.Beginning.{Begins}
 use Rattle.reading.specs.Counts.{countsOn}
@@ -19,6 +20,17 @@ use Rattle.reading.proofs.Latched.{Latched, passed-first, half-record, 
 use Rattle.reading.proofs.Stands.{Stands, counted-stands, latch-stands, read-stands}
 use Rattle.reading.proofs.Spelling.{left-below, left-good, left-again}
 
+-- all the time the board is of one model
+module _ (b : Board) (i : ℕ) (calls : Calls) where
+  before-model : atLatch b i calls .model ≡ b .model
+  before-model = steps-model b (calls .before)
+
+  latched-model : latched b i calls .model ≡ b .model
+  latched-model = settings-kept (atLatch b i calls) (latch calls) .0 ∙ before-model
+
+  half-model : halfRead b i calls .model ≡ b .model
+  half-model = settings-kept (atFirst b i calls) (readOf i) .0 ∙ steps-model (latched b i calls) (calls .after) ∙ latched-model
+
 module _ {b : Board} {i : ℕ} {bcd : Bool} {v : ℕ} {calls : Calls} (reading : Reading b i bcd v calls) where
   -- n counts up to the latch
   begins-latch : Begins (atLatch b i calls) i bcd (remaining bcd v (countsMade b i calls))
@@ -28,7 +40,7 @@ module _ {b : Board} {i : ℕ} {bcd : Bool} {v : ℕ} {calls : Calls} (reading :
   latched-record =
       command-turn (atLatch b i calls) (begins-latch .three-channels) i (begins-latch .on-board) (calls .latchByte) (calls .latchEvents) (calls .latchPlace) (LatchCount i)
       (latchCount (channelAt (atLatch b i calls) i))
-      (reading .latches)
+      (rw (before-model b i calls) (reading .latches))
       refl
       (reading .latch-accepted)
 
@@ -39,8 +51,8 @@ module _ {b : Board} {i : ℕ} {bcd : Bool} {v : ℕ} {calls : Calls} (reading :
         on-board = begins-latch .on-board;
         three-channels = step-three (atLatch b i calls) (begins-latch .three-channels) (latch calls);
         holds = rw (latched-record, ← begins-latch .element) (latch-holds (channelAt (atLatch b i calls) i) (begins-latch .may));
-        after-may = reading .after-may;
-        between-may = reading .between-may;
+        after-may = rw (latched-model b i calls) (reading .after-may);
+        between-may = rw (half-model b i calls) (reading .between-may);
       }
 
   -- the counts up to the first read

@@ -63,7 +63,7 @@ module _ (b : Board) (none : b .owed .0 ≡ 0) (n : ℕ) (on : n < 3) where
   latch-outcome : step b (latch (threeCalls n)) ≡ latchedOn b n
   unfolding writePort portOf
   latch-outcome =
-      simp none (ap (λ (command : Command). controlRegisterWrite b command [] 0) (latch-byte n on) ∙ latch-settled b n)
+      simp none (ap (λ (command : Command). controlRegisterWrite b command [] 0) (latch-byte (b .model) n on) ∙ latch-settled b n)
 
   pub latch-taken : IsAccepted b (latch (threeCalls n))
   latch-taken = (newPlace 0, ap (λ (o : Outcome). o .reply) latch-outcome)

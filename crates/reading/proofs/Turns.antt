@@ -1,12 +1,16 @@
 -- The turns of a reading that are its own, on the board: a command of the channel, and the two reads. Assumes nothing.
 use Prim.Native.Nat.{ℕ, _<_}
+use mathlib.Core.Bool.{true}
 use mathlib.Core.List.{List}
-use mathlib.Core.Path.{_≡_, sym, ap, _∙_}
+use mathlib.Core.Path.{_≡_, refl, sym, ap, _∙_}
 use lib.ListN.{length}
 use Rattle.refusal.specs.Reply.{accepted}
 use Rattle.channel.specs.declared.Channel.{Channel}
 use Rattle.control.specs.declared.Command.{Command}
-use Rattle.control.specs.Control.{commandOf}
+use Rattle.control.specs.declared.Command.the-variants.{ReadBack}
+use Rattle.control.specs.declared.ReadBackWord.{ReadBackWord}
+use Rattle.control.specs.Control.{names, commandOf}
+use Rattle.latch.specs.ReadBack.{readBack}
 use Rattle.latch.specs.Reading.{readByte}
 use Rattle.latch.specs.Label.{labelOf}
 use Rattle.board.specs.declared.Board.{Board}
@@ -16,7 +20,9 @@ use Rattle.board.specs.Outcome.{Outcome, Value}
 use Rattle.ports.specs.Port.{portOf}
 use Rattle.ports.proofs.Below.{data-port}
 use Rattle.ports.specs.Settle.{settle}
+use Rattle.ports.specs.ReadBacks.{readBackAt, readBackWrite}
 use Rattle.ports.proofs.Settling.{settle-taken}
+use Rattle.ports.proofs.ReadingBacks.{each-read, read-backs-taken}
 use Rattle.ports.specs.Reads.{dataRead, readFrom, readPort}
 use Rattle.ports.specs.Writes.{controlRegisterWrite, writePort}
 use Rattle.step.specs.Step.{step}
@@ -44,14 +50,25 @@ module _ (b : Board) (three : length (b .channels) ≡ 3) (i : ℕ) (on : i < 3)
   settled-found c events place value took =
       ap (λ (d : Board). channelAt d i) (settle-taken b events place i c value took) ∙ put-found b three i on c
 
+  -- a control byte that is a read-back which names the channel
+  pub read-back-turn : (x : ℕ) (events : List ℕ) (place : ℕ) (word : ReadBackWord) → commandOf (b .model) x ≡ ReadBack word → names word i ≡ true
+      → IsAccepted b (controlWrite x events place)
+      → channelAt (step b (controlWrite x events place) .board) i ≡ readBack (word .counts) (word .status) (channelAt b i)
+  unfolding writePort portOf readBackAt
+  read-back-turn x events place word is named took =
+      let e : step b (controlWrite x events place) ≡ readBackWrite b word events place =
+      not-owed b events (controlRegisterWrite b (commandOf (b .model) x) events place) (took .0) (took .1) ∙ rw is refl in
+      let left = read-backs-taken b events place word (took .0) (sym (ap (λ (o : Outcome). o .reply) e) ∙ took .1) in
+      ap (λ (o : Outcome). channelAt (o .board) i) e ∙ ap (λ (d : Board). channelAt d i) left ∙ each-read b word three i on ∙ rw named refl
+
   -- a control byte that is a command, where that command leaves a record
-  pub command-turn : (x : ℕ) (events : List ℕ) (place : ℕ) (command : Command) (c : Channel) → commandOf x ≡ command
+  pub command-turn : (x : ℕ) (events : List ℕ) (place : ℕ) (command : Command) (c : Channel) → commandOf (b .model) x ≡ command
       → controlRegisterWrite b command events place ≡ settle b i c events place
       → IsAccepted b (controlWrite x events place)
       → channelAt (step b (controlWrite x events place) .board) i ≡ c
   unfolding writePort portOf
   command-turn x events place command c is leaves took =
       let e : step b (controlWrite x events place) ≡ settle b i c events place =
-      not-owed b events (controlRegisterWrite b (commandOf x) events place) (took .0) (took .1) ∙ rw is leaves in
+      not-owed b events (controlRegisterWrite b (commandOf (b .model) x) events place) (took .0) (took .1) ∙ rw is leaves in
       ap (λ (o : Outcome). channelAt (o .board) i) e
       ∙ settled-found c events place (took .0) (sym (ap (λ (o : Outcome). o .reply) e) ∙ took .1)

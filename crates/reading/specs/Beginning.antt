@@ -6,13 +6,15 @@ use mathlib.Core.Path.{_≡_}
 use lib.ListN.{length}
 use Rattle.numbers.specs.Digits.{GoodDigits}
 use Rattle.channel.specs.declared.Channel.{Channel}
+use Rattle.latch.specs.Status.{noStatus}
 use Rattle.latch.specs.Reading.{startsWord}
 use Rattle.board.specs.declared.Board.{Board}
 use Rattle.board.specs.Board.{channelAt}
 
--- "A channel read low byte then high, not latched, no word half read": the next read starts a word
+-- "A channel read low byte then high, not latched, no word half read": the next read starts a word. 02, L5: "Demand 3 now starts with no status held"
 abbrev pub mayBegin : Channel → Bool
-mayBegin c = cond (c .latch .«count_is_latched») false (startsWord (c .latch .«read_state») (c .control .«rw_mode»))
+mayBegin c =
+    cond (noStatus c) (cond (c .latch .«count_is_latched») false (startsWord (c .latch .«read_state») (c .control .«rw_mode»))) false
 
 -- channel i of board b, in BCD or not, at counting element v
 pub record Begins (b : Board) (i : ℕ) (bcd : Bool) (v : ℕ) : Type 0 where

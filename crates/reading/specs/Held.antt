@@ -1,16 +1,19 @@
--- Document 02, L3, what the two words of a read are worth. The byte is the half that they say. A byte that is held is of the count that one latch took; and two reads of one
--- channel, the first `low held` and the second `high held`, with no command for it, reset or other read of it between them, give both halves of one such count. And a latch
--- makes the next read say `held`. Proved in proofs/Held.antt; docs/READING.md says it in words.
+-- Document 02, L3, what the two words of a read are worth. The byte is the half that they say, or with `none held` the held status (L5). A half that is held is of the count that
+-- one latch took; and two reads of one channel, the first `low held` and the second `high held`, with no command for it, reset or other read of it between them, give both halves of
+-- one such count. And a latch makes the next read say `held`. Proved in proofs/Held.antt; docs/READING.md says it in words.
 use Prim.Native.Nat.{ℕ, _/_, _%_, _<_}
 use mathlib.Core.Bool.{Bool, true, false}
 use mathlib.Core.List.{List, [], _∷_, _++_}
 use mathlib.Core.Logic.{_⊎_}
 use mathlib.Core.Path.{_≡_}
 use lib.ListN.{length}
-use Rattle.control.specs.declared.Command.the-variants.{LatchCount}
-use Rattle.control.specs.Control.{commandOf}
+use Rattle.channel.specs.declared.PitType.{PitType}
+use Rattle.control.specs.declared.Command.{Command}
+use Rattle.control.specs.declared.Command.the-variants.{Nothing, LatchCount, SetMode, ReadBack}
+use Rattle.control.specs.Control.{names, commandOf}
 use Rattle.latch.specs.declared.label.Label.{Label}
 use Rattle.latch.specs.declared.label.WhichHalf.the-variants.{Neither}
+use Rattle.latch.specs.Status.{noStatus}
 use Rattle.latch.specs.Label.{IsHalf, withValue}
 use Rattle.board.specs.declared.Board.{Board}
 use Rattle.board.specs.Board.{channelAt, withChannel}
@@ -25,7 +28,7 @@ use Rattle.reading.specs.Spelling.{remaining, Says, lowHeld, highHeld}
 abbrev pub withOutputLatch : Board → ℕ → ℕ → Board
 withOutputLatch b i v = withChannel b i (withValue (channelAt b i) v)
 
--- "low or high half": what an accepted read of a data port says does not go by the value read, and the byte is that half of it, whatever it is; "and whether the channel
+-- "low or high half", where no status is held: what an accepted read of a data port says does not go by the value read, and the byte is that half of it, whatever it is; "and whether the channel
 -- was latched just before"
 pub record SaysOf (b : Board) (i x : ℕ) (label : Label) : Type 0 where
   pub low-or-high : label .half ≡ Neither → ⊥
@@ -35,19 +38,39 @@ pub record SaysOf (b : Board) (i x : ℕ) (label : Label) : Type 0 where
 
 abbrev pub SaysItsHalf : Type 0
 SaysItsHalf =
-    (b : Board) (i : ℕ) → i < 3 → length (b .channels) ≡ 3 → (x : ℕ) (label : Label) → Says x label (step b (readOf i) .reply) → SaysOf b i x label
+    (b : Board) (i : ℕ) → i < 3 → length (b .channels) ≡ 3 → noStatus (channelAt b i) ≡ true → (x : ℕ) (label : Label) → Says x label (step b (readOf i) .reply)
+    → SaysOf b i x label
+
+-- L5: "A held status is read first, once .. L3's words for it are `none held`": it is what is read, no status is held after that, and a count that is held or half read stands
+pub record SaysStatus (b : Board) (i x : ℕ) (label : Label) : Type 0 where
+  pub none-held : label ≡ record { half = Neither; held = true }
+  pub status : x ≡ channelAt b i .status .«status_latch»
+  pub once : noStatus (channelAt (step b (readOf i) .board) i) ≡ true
+  pub undisturbed : channelAt (step b (readOf i) .board) i .latch ≡ channelAt b i .latch
+
+abbrev pub StatusIsSaid : Type 0
+StatusIsSaid =
+    (b : Board) (i : ℕ) → i < 3 → length (b .channels) ≡ 3 → noStatus (channelAt b i) ≡ false → (x : ℕ) (label : Label) → Says x label (step b (readOf i) .reply)
+    → SaysStatus b i x label
 
 -- "and the command port prints `read 00 none live`", whatever is latched
 abbrev pub CommandSaysNothing : Type 0
 CommandSaysNothing = (b : Board) → Says 0 (record { half = Neither; held = false }) (step b (ReadPort 0x43) .reply)
 
--- a call that latches the count of channel i: a control byte that is its latch command
-pub record Latches (i : ℕ) (o : Operation) : Type 0 where
+-- a command that asks for the count of channel i: its latch command, or a read-back that names it and asks for counts, which takes none where one is held
+abbrev pub TakesCount : Command → ℕ → Type 0
+TakesCount Nothing i = ⊥
+TakesCount (LatchCount n) i = n ≡ i
+TakesCount (SetMode n word) i = ⊥
+TakesCount (ReadBack word) i = (names word i ≡ true) × (word .counts ≡ true)
+
+-- a call that latches the count of channel i, on a board of a model: a control byte that is such a command
+pub record Latches (model : PitType) (i : ℕ) (o : Operation) : Type 0 where
   pub byte : ℕ
   pub events : List ℕ
   pub place : ℕ
   pub is : o ≡ controlWrite byte events place
-  pub command : commandOf byte ≡ LatchCount i
+  pub command : TakesCount (commandOf model byte) i
 
 -- channel i is latched, and this is the count in its output latch
 pub record IsHeld (b : Board) (i count : ℕ) : Type 0 where
@@ -65,7 +88,7 @@ pub record TakenBy (b : Board) (i : ℕ) (calls : List Operation) (count : ℕ) 
   pub latching : Operation
   pub after : List Operation
   pub are : calls ≡ before ++ (latching ∷ after)
-  pub latches : Latches i latching
+  pub latches : Latches (b .model) i latching
   pub is-accepted : IsAccepted (steps b before) latching
   pub element : channelAt (steps b before) i .counter .«counting_element» ≡ count
   pub since : HeldOver (step (steps b before) latching .board) i after count
@@ -80,21 +103,22 @@ LatchAmongCalls =
     (b : Board) (i : ℕ) (calls : List Operation) (count : ℕ) → channelAt b i .latch .«count_is_latched» ≡ false → OfOneLatch b i calls count
     → TakenBy b i calls count
 
--- An accepted read that says that its byte is held, after any calls, in any access: the byte is the half that it says of the count that one latch took.
+-- An accepted read that says that its byte is held, and which half it is, after any calls, in any access: the byte is that half of the count that one latch took.
 abbrev pub HeldByte : Type 0
 HeldByte =
     (b : Board) (i : ℕ) → i < 3 → length (b .channels) ≡ 3 → (calls : List Operation) (x : ℕ) (label : Label)
     → Says x label (step (steps b calls) (readOf i) .reply)
     → label .held ≡ true
+    → (label .half ≡ Neither → ⊥)
     → (count : ℕ) × IsHalf (label .half) x count × OfOneLatch b i calls count
 
 -- no command for channel i, no reset and no read of it: what may pass during a reading, and a load cycle, which a held count does not see
-abbrev pub LeavesLatch : ℕ → Operation → Type 0
-LeavesLatch i o = MayPass i o ⊎ (o ≡ LoadCycle i)
+abbrev pub LeavesLatch : PitType → ℕ → Operation → Type 0
+LeavesLatch model i o = MayPass model i o ⊎ (o ≡ LoadCycle i)
 
-abbrev pub AllLeaveLatch : ℕ → List Operation → Type 0
-AllLeaveLatch i [] = Unit
-AllLeaveLatch i (o ∷ os) = LeavesLatch i o × AllLeaveLatch i os
+abbrev pub AllLeaveLatch : PitType → ℕ → List Operation → Type 0
+AllLeaveLatch model i [] = Unit
+AllLeaveLatch model i (o ∷ os) = LeavesLatch model i o × AllLeaveLatch model i os
 
 module _ (b : Board) (i : ℕ) (calls between : List Operation) where
   -- the board when the turn of the first read comes, and of the second
@@ -107,7 +131,7 @@ module _ (b : Board) (i : ℕ) (calls between : List Operation) where
   -- after any calls a first read that says `low held`, and a second that says `high held`
   pub record HeldWord (x y : ℕ) : Type 0 where
     pub first : Says x lowHeld (step atLow (readOf i) .reply)
-    pub between-leave : AllLeaveLatch i (acceptedOf (step atLow (readOf i) .board) between)
+    pub between-leave : AllLeaveLatch (b .model) i (acceptedOf (step atLow (readOf i) .board) between)
     pub second : Says y highHeld (step atHigh (readOf i) .reply)
 
 -- Both bytes are of the count that one latch took, from any board of three channels.
@@ -123,21 +147,25 @@ ReadingIsHeld =
     → HeldWord b i (calls .before ++ (latch calls ∷ calls .after)) (calls .between) (remaining bcd v (countsMade b i calls) % 256)
     (remaining bcd v (countsMade b i calls) / 256)
 
--- A word begun live and latched between its bytes is torn, and the words tell: where a read says `live`, and a later one `held`, a latch was accepted in between, and the
--- held byte is of the count that it took.
+-- A word begun live and latched between its bytes is torn, and the words tell: where a read says `live`, and a later one `low held` or `high held`, a latch was accepted in between,
+-- and the held byte is of the count that it took.
 abbrev pub LiveThenHeld : Type 0
 LiveThenHeld =
     (b : Board) (i : ℕ) → i < 3 → length (b .channels) ≡ 3 → (x : ℕ) (first : Label) → Says x first (step b (readOf i) .reply) → first .held ≡ false
     → (between : List Operation) (y : ℕ) (second : Label) → Says y second (step (steps (step b (readOf i) .board) between) (readOf i) .reply)
     → second .held ≡ true
+    → (second .half ≡ Neither → ⊥)
     → (count : ℕ) × IsHalf (second .half) y count × TakenBy (step b (readOf i) .board) i between count
 
--- And the other way: after an accepted latch, and calls that leave it, the next read says `held`, in any access, and its byte is of the count that the latch took.
+-- And the other way: after an accepted latch of a channel with no status held, and calls that leave it, the next read says `held`, in any access, and its byte is of the count that
+-- the latch took. A read-back of the count leaves a channel that was not latched the same (agreement, `count-as-plain`).
 abbrev pub LatchIsSaid : Type 0
 LatchIsSaid =
-    (b : Board) (i : ℕ) → i < 3 → length (b .channels) ≡ 3 → (latching : Operation) → Latches i latching → IsAccepted b latching
-    → (between : List Operation) → AllLeaveLatch i (acceptedOf (step b latching .board) between)
+    (b : Board) (i : ℕ) → i < 3 → length (b .channels) ≡ 3 → noStatus (channelAt b i) ≡ true
+    → (byte : ℕ) (events : List ℕ) (place : ℕ) → commandOf (b .model) byte ≡ LatchCount i → IsAccepted b (controlWrite byte events place)
+    → (between : List Operation) → AllLeaveLatch (b .model) i (acceptedOf (step b (controlWrite byte events place) .board) between)
     → (x : ℕ) × (label : Label)
-    × Says x label (step (steps (step b latching .board) between) (readOf i) .reply)
+    × Says x label (step (steps (step b (controlWrite byte events place) .board) between) (readOf i) .reply)
     × (label .held ≡ true)
+    × (label .half ≡ Neither → ⊥)
     × IsHalf (label .half) x (channelAt b i .counter .«counting_element»)

@@ -5,6 +5,7 @@ use mathlib.Core.Bool.{false}
 use mathlib.Core.List.{List, [], _∷_}
 use mathlib.Core.Path.{_≡_}
 use Rattle.numbers.specs.Times.{times}
+use Rattle.channel.specs.declared.PitType.{PitType}
 use Rattle.control.specs.Control.{commandOf}
 use Rattle.tick.specs.Loads.{loads}
 use Rattle.board.specs.declared.Board.{Board}
@@ -18,32 +19,33 @@ use Rattle.step.specs.Step.{step}
 use Rattle.step.specs.Touched.{CommandTouches, ReadTouches}
 use Rattle.reading.specs.Counts.{ticksMade}
 
--- a data byte to any channel; a control byte that neither latches channel i nor sets its mode. (An unknown port is refused, so no accepted call is one.)
-abbrev pub MayWrite : ℕ → Port → ℕ → Type 0
-MayWrite i (port.Data n) byte = Unit
-MayWrite i port.Command byte = CommandTouches (commandOf byte) i → ⊥
-MayWrite i port.Unknown byte = Unit
+-- a data byte to any channel; a control byte that neither latches channel i, nor sets its mode, nor reads it back, on a board of a model. (An unknown port is refused, so no accepted
+-- call is one.)
+abbrev pub MayWrite : PitType → ℕ → Port → ℕ → Type 0
+MayWrite model i (port.Data n) byte = Unit
+MayWrite model i port.Command byte = CommandTouches (commandOf model byte) i → ⊥
+MayWrite model i port.Unknown byte = Unit
 
 -- what an accepted call may do on the board while channel i is being read; of a refused one nothing is asked (`Reading`)
-abbrev pub MayPass : ℕ → Operation → Type 0
-MayPass i (WritePort port byte events place) = MayWrite i (portOf port) byte
-MayPass i (ReadPort port) = ReadTouches (portOf port) i → ⊥
-MayPass i (SetChannelGate channel level events place) = Unit
-MayPass i (Counts channel number) = Unit
-MayPass i (LoadCycle channel) = i ≡ channel → ⊥
-MayPass i (CatchUp given) = Unit
-MayPass i (Run given) = Unit
-MayPass i Reset = ⊥
-MayPass i (GetOutputState channel) = Unit
-MayPass i (GetChannelCount channel) = Unit
-MayPass i (DoesChannelRetrigger channel) = Unit
-MayPass i (IsDirty channel) = Unit
-MayPass i GetTimerAccum = Unit
-MayPass i (WorkOff stated events place) = Unit
+abbrev pub MayPass : PitType → ℕ → Operation → Type 0
+MayPass model i (WritePort port byte events place) = MayWrite model i (portOf port) byte
+MayPass model i (ReadPort port) = ReadTouches (portOf port) i → ⊥
+MayPass model i (SetChannelGate channel level events place) = Unit
+MayPass model i (Counts channel number) = Unit
+MayPass model i (LoadCycle channel) = i ≡ channel → ⊥
+MayPass model i (CatchUp given) = Unit
+MayPass model i (Run given) = Unit
+MayPass model i Reset = ⊥
+MayPass model i (GetOutputState channel) = Unit
+MayPass model i (GetChannelCount channel) = Unit
+MayPass model i (DoesChannelRetrigger channel) = Unit
+MayPass model i (IsDirty channel) = Unit
+MayPass model i GetTimerAccum = Unit
+MayPass model i (WorkOff stated events place) = Unit
 
-abbrev pub AllMayPass : ℕ → List Operation → Type 0
-AllMayPass i [] = Unit
-AllMayPass i (o ∷ os) = MayPass i o × AllMayPass i os
+abbrev pub AllMayPass : PitType → ℕ → List Operation → Type 0
+AllMayPass model i [] = Unit
+AllMayPass model i (o ∷ os) = MayPass model i o × AllMayPass model i os
 
 -- 02, L1: demand 3 "holds between load cycles": none of the next ticks of the board, so many, loads channel i
 abbrev pub Unloaded : ℕ → Board → ℕ → Type 0

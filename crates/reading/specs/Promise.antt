@@ -46,7 +46,7 @@ BeginsAgain =
 -- The same promise of one call of the library, `read_count`: after n counts, whatever else passes, it answers v - n, if no tick is owed then ..
 abbrev pub CountsThenReads : Type 0
 CountsThenReads =
-    (b : Board) (i : ℕ) (bcd : Bool) (v : ℕ) → Begins b i bcd v → (os : List Operation) → AllMayPass i (acceptedOf b os) → NoLoads i b os
+    (b : Board) (i : ℕ) (bcd : Bool) (v : ℕ) → Begins b i bcd v → (os : List Operation) → AllMayPass (b .model) i (acceptedOf b os) → NoLoads i b os
     → steps b os .owed .0 ≡ 0
     → readCount (steps b os) i .reply ≡ accepted (remaining bcd v (countsOn i b os))
 

@@ -85,9 +85,9 @@ module _ (b : Board) (i : ℕ) (calls : Calls) where
 -- a read of the channel's port is always accepted (`Spells` says so). What may pass is asked of the accepted calls: a refused one, whatever it asks for, leaves the board.
 pub record Reading (b : Board) (i : ℕ) (bcd : Bool) (v : ℕ) (calls : Calls) : Type 0 where
   pub begins : Begins b i bcd v
-  pub before-may : AllMayPass i (acceptedOf b (calls .before))
+  pub before-may : AllMayPass (b .model) i (acceptedOf b (calls .before))
   pub no-loads : NoLoads i b (calls .before)
-  pub latches : commandOf (calls .latchByte) ≡ LatchCount i
+  pub latches : commandOf (b .model) (calls .latchByte) ≡ LatchCount i
   pub latch-accepted : IsAccepted (atLatch b i calls) (latch calls)
-  pub after-may : AllMayPass i (acceptedOf (latched b i calls) (calls .after))
-  pub between-may : AllMayPass i (acceptedOf (halfRead b i calls) (calls .between))
+  pub after-may : AllMayPass (b .model) i (acceptedOf (latched b i calls) (calls .after))
+  pub between-may : AllMayPass (b .model) i (acceptedOf (halfRead b i calls) (calls .between))

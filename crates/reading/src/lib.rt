@@ -11,7 +11,7 @@ ghost use Rattle.reading.specs.ReadCount.{countReply, countOutcome, read
 
 pub enum CountAnswer {
     Refused(Refusal),
-    // The channel is not read low byte then high, is latched, or has a word half read: nothing was done.
+    // The channel is not read low byte then high, is latched, holds a status, or has a word half read: nothing was done.
     NotReadable,
     // The counting element: in BCD its four digits as they stand, 0x1234 for 1,234.
     Count(u16),
@@ -55,17 +55,21 @@ fn read_word(c: Channel) -> WordRead
     }
 }
 
-// A held count is left to whoever latched it.
+// A held count or status is left to whoever latched it.
 fn may_begin(c: Channel) -> bool
     ensures { λ r. ⌜ r ≡ mayBegin c ⌝ }
 {
+    let s = c.status;
     let l = c.latch;
-    if l.count_is_latched {
-        return false;
-    }
     let w = c.control;
     let rw_mode = w.rw_mode;
     let read_state = l.read_state;
+    if s.status_latch != 0 {
+        return false;
+    }
+    if l.count_is_latched {
+        return false;
+    }
     latch::starts_word(read_state, rw_mode)
 }
 

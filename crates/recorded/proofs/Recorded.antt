@@ -37,10 +37,11 @@ module _ (b : Board) where
   of-command command.Nothing = refl
   of-command (command.LatchCount n) = refl
   of-command (command.SetMode n word) = refl
+  of-command (command.ReadBack word) = refl
 
-  of-write : (p : Port) (byte : ℕ) → Two b (writeTurn (owes b) p byte)
+  of-write : (p : Port) (byte : ℕ) → Two b (writeTurn (owes b) (b .model) p byte)
   of-write (port.Data n) byte = either (owes b) _ _ refl refl
-  of-write port.Command byte = either (owes b) _ _ refl (of-command (commandOf byte))
+  of-write port.Command byte = either (owes b) _ _ refl (of-command (commandOf (b .model) byte))
   of-write port.Unknown byte = refl
 
   of-read : (p : Port) → Two b (readTurn p)
@@ -53,7 +54,7 @@ module _ (b : Board) where
   bare o t is two =
       ap {B = Outcome} (λ (events : List ℕ). record { reply = o .reply; board = o .board; events = padded events }) (is .none) ∙ ap inSix (is .same twoLent 0) ∙ two
 
-pub turn-made : (b : Board) (o : Operation) → make b o ≡ turnedInSix b (turnOf (owes b) o)
+pub turn-made : (b : Board) (o : Operation) → make b o ≡ turnedInSix b (turnOf (owes b) (b .model) o)
 unfolding make turnOf
 turn-made b (recorded.WritePort number byte) = ap inSix (write-is b twoLent 0 number byte) ∙ of-write b (portOf number) byte
 turn-made b (recorded.ReadPort number) = bare b _ _ (read-is b number) (of-read b (portOf number))

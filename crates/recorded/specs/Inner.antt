@@ -19,6 +19,7 @@ lentTo (turn.OnChannel n w) = twoLent
 lentTo (turn.Elapse given next defers) = twoLent
 lentTo turn.Reset = twoLent
 lentTo (turn.WorkOff stated) = sixLent
+lentTo (turn.ReadBack word) = twoLent
 lentTo turn.Untouched = twoLent
 lentTo (turn.Say answer) = twoLent
 

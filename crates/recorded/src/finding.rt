@@ -1,16 +1,17 @@
 // The turn of a recorded operation.
+use channel::PitType;
 use trace::operation::Operation;
 use turn::finding;
 use turn::finding::Turn;
 ghost use Rattle.turn.specs.Inner.{Finds};
 ghost use Rattle.recorded.specs.Finding.{turnOf};
 
-// For a board that owes ticks, or owes none. Reads, counts and load cycles are the same on both.
-pub fn turn_of(operation: Operation, owing: bool) -> Turn
-    ensures { λ r. ⌜ Finds (turnOf owing operation) r ⌝ }
+// For a board of a model that owes ticks, or owes none. Reads, counts and load cycles are the same on all.
+pub fn turn_of(operation: Operation, owing: bool, model: PitType) -> Turn
+    ensures { λ r. ⌜ Finds (turnOf owing model operation) r ⌝ }
 {
     match operation {
-        Operation::WritePort(port, byte) => finding::write_turn(port as u16, byte, owing),
+        Operation::WritePort(port, byte) => finding::write_turn(port as u16, byte, owing, model),
         Operation::ReadPort(port) => finding::read_turn(port as u16),
         Operation::SetChannelGate(channel, level) => {
             finding::gate_turn(channel as usize, level, owing)

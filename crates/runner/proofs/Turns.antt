@@ -64,8 +64,8 @@ module _ (trace : List ℕ) (first number : ℕ) (all : soundness (operationsFro
 
 -- the turn at an index comes to what the operation there makes of the board
 pub turn-at-made : (b : Board) (trace : List ℕ) (index : ℕ) (o : Operation) → operationAt trace index ≡ sound o
-    → make b o ≡ turnedInSix b (turnOf (owes b) (operationIn trace index))
-turn-at-made b trace index o is = turn-made b o ∙ ap (λ (p : Operation). turnedInSix b (turnOf (owes b) p)) (sym (in-sound trace index o is))
+    → make b o ≡ turnedInSix b (turnOf (owes b) (b .model) (operationIn trace index))
+turn-at-made b trace index o is = turn-made b o ∙ ap (λ (p : Operation). turnedInSix b (turnOf (owes b) (b .model) p)) (sym (in-sound trace index o is))
 
 -- the board and the lent bytes after the first j operations of a list
 pub record Running (form : Form) (start : Board) (first : ℕ) (os : List Operation) (bytes : List ℕ) (place : ℕ) (b : Board) (at j : ℕ) (out : List ℕ) : Type 0 where

@@ -9,11 +9,13 @@ use board::Answer;
 use board::Board;
 use board::PortRead;
 use board::Worked;
+use channel::PitType;
 pub use lending::answers_into;
 pub use lending::replay_into;
 use line::LINE_ROOM;
 use line::Line;
 use line::sentence::Sentence;
+use ports::reading_back;
 use time::SystemTicks;
 use time::TimerTicks;
 use trace::MOST_OPERATIONS;
@@ -99,11 +101,11 @@ fn all_made(run: u32) -> Answer
     Answer::Worked(Worked { made, place: 0 })
 }
 
-// The turn of the operation at an index, on a board that owes ticks or owes none.
-fn turn_at(trace: &[u8], index: u32, owing: bool) -> Turn
-    ensures { λ r. ⌜ Finds (turnOf owing (operationIn (now (trace .entry)) index)) r ⌝ }
+// The turn of the operation at an index, on a board of a model that owes ticks or owes none.
+fn turn_at(trace: &[u8], index: u32, owing: bool, model: PitType) -> Turn
+    ensures { λ r. ⌜ Finds (turnOf owing model (operationIn (now (trace .entry)) index)) r ⌝ }
 {
-    recorded::turn_of(trace::operation_in(trace, index), owing)
+    recorded::turn_of(trace::operation_in(trace, index), owing, model)
 }
 
 // What is said of the operations from the first index on, as many as are asked for. A replay from the start begins at 0; one from a later board will not.
@@ -128,7 +130,8 @@ fn tell(
         let index = first + j;
         j += 1;
         let owing = b.owed;
-        let turn = turn_at(trace, index, owing.0 != 0);
+        let model = b.model;
+        let turn = turn_at(trace, index, owing.0 != 0, model);
         let none = [0u8; 6];
         match turn {
             Turn::OnChannel(n, work) => {
@@ -153,7 +156,6 @@ fn tell(
                     }
                     Work::SetMode(word) => {
                         let c = b.channels[i];
-                        let model = b.model;
                         let next = mode::set_mode(c, word, model);
                         b.channels[i] = next;
                         let raised = recorded::raise(n, c, next);
@@ -267,7 +269,6 @@ fn tell(
                     at = say(form, out, at, index, all_made(run), none, left);
                 } else {
                     let mut six = [0u8; 6];
-                    let model = b.model;
                     let worked = owed::work_channels(c0, c1, c2, model, owing, stated, &mut six, 0);
                     let t0 = worked.c0;
                     let t1 = worked.c1;
@@ -281,6 +282,19 @@ fn tell(
                     let left = b.remainder;
                     at = say(form, out, at, index, answer, six, left);
                 }
+            }
+            Turn::ReadBack(word) => {
+                let c0 = b.channels[0];
+                let c1 = b.channels[1];
+                let c2 = b.channels[2];
+                let d0 = reading_back::read_back_at(word, 0, c0);
+                let d1 = reading_back::read_back_at(word, 1, c1);
+                let d2 = reading_back::read_back_at(word, 2, c2);
+                b.channels[0] = d0;
+                b.channels[1] = d1;
+                b.channels[2] = d2;
+                let left = b.remainder;
+                at = say(form, out, at, index, Answer::Place(0), none, left);
             }
             Turn::Say(answer) => {
                 let left = b.remainder;

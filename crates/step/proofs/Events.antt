@@ -12,11 +12,14 @@ use lib.ListN.{length}
 use borrow.Author.Tests.{ltb-false, eqb-true, eqb-false}
 use Rattle.refusal.specs.Reply.{Reply, refused, accepted}
 use Rattle.channel.specs.declared.Channel.{Channel}
+use Rattle.channel.specs.declared.Pins.{Pins}
 use Rattle.channel.proofs.Pick.{pick-knowing}
 use Rattle.control.specs.declared.Command.{Command}
-use Rattle.control.specs.declared.Command.the-variants.{Nothing, LatchCount, SetMode}
+use Rattle.control.specs.declared.Command.the-variants.{Nothing, LatchCount, SetMode, ReadBack}
+use Rattle.control.specs.declared.ReadBackWord.{ReadBackWord}
 use Rattle.control.specs.Control.{commandOf}
 use Rattle.control.proofs.Named.{named-below}
+use Rattle.latch.proofs.ReadBacks.{read-back-keeps}
 use Rattle.event.specs.declared.Event.{Event}
 use Rattle.event.specs.declared.Event.the-variants.{Unchanged, Level}
 use Rattle.event.specs.Event.{Placing, eventOf, levelEvent, placeEvent}
@@ -32,6 +35,8 @@ use Rattle.ports.specs.declared.port.Port.the-variants.{Data, Command as Comman
 use Rattle.ports.specs.Port.{portOf}
 use Rattle.ports.proofs.Below.{data-below}
 use Rattle.ports.specs.Settle.{callReply, boardAfter, placedOn, settle, untouched}
+use Rattle.ports.specs.ReadBacks.{readBacks, readBackWrite}
+use Rattle.ports.proofs.ReadingBacks.{kept-everywhere}
 use Rattle.ports.specs.Gates.{setChannelGate}
 use Rattle.ports.specs.Writes.{controlRegisterWrite, writeTo, writePort}
 use Rattle.step.specs.Operation.{WritePort, SetChannelGate}
@@ -144,6 +149,19 @@ module _ (b : Board) (three : length (b .channels) ≡ 3) (events : List ℕ) (p
         inl (record { same-place = p .0; same-bytes = p .1; same-levels = λ m. ap (λ (x : Board). levelAt x m) (p .2 b b) }),
       )
 
+  read-back-told : (word : ReadBackWord) → readBackWrite b word events place .reply ≡ accepted value
+      → ToldBy b events place (readBackWrite b word events place) value
+  read-back-told word e =
+      let a = answers (placeEvent Unchanged events place .reply) value e in
+      let p = placed events place (a .0) Unchanged (e ∙ ap accepted (a .1)) in
+      let stands : (m : ℕ) → levelAt (readBacks word b) m ≡ levelAt b m =
+      kept-everywhere b word three (λ (c : Channel). c .pins .output)
+      (λ counts status c. ap (λ (q : Pins). q .output) (read-back-keeps counts status c .pins-stay)) in (
+        a .0,
+        a .1,
+        inl (record { same-place = p .0; same-bytes = p .1; same-levels = λ m. ap (λ (x : Board). levelAt x m) (p .2 b (readBacks word b)) ∙ stands m }),
+      )
+
   owing-told : (outcome : Outcome) → (outcome .reply ≡ accepted value → ToldBy b events place outcome value)
       → unlessOwed b events outcome .reply ≡ accepted value → ToldBy b events place (unlessOwed b events outcome) value
   owing-told outcome tells =
@@ -151,16 +169,17 @@ module _ (b : Board) (three : length (b .channels) ≡ 3) (events : List ℕ) (p
       (λ owes e. absurd (refused-not 16 value e))
       (λ none. tells)
 
-  command-told : (x : ℕ) → x < 256 → (command : Command) → commandOf x ≡ command → controlRegisterWrite b command events place .reply ≡ accepted value
+  command-told : (x : ℕ) → x < 256 → (command : Command) → commandOf (b .model) x ≡ command → controlRegisterWrite b command events place .reply ≡ accepted value
       → ToldBy b events place (controlRegisterWrite b command events place) value
   command-told x small Nothing is e = untouched-told e
-  command-told x small (LatchCount n) is e = settled-told n (named-below x small (LatchCount n) is) _ e
-  command-told x small (SetMode n word) is e = settled-told n (named-below x small (SetMode n word) is) _ e
+  command-told x small (LatchCount n) is e = settled-told n (named-below (b .model) x small (LatchCount n) is) _ e
+  command-told x small (SetMode n word) is e = settled-told n (named-below (b .model) x small (SetMode n word) is) _ e
+  command-told x small (ReadBack word) is e = read-back-told word e
 
   port-told : (number x : ℕ) → x < 256 → (port : Port) → portOf number ≡ port → writeTo b port x events place .reply ≡ accepted value
       → ToldBy b events place (writeTo b port x events place) value
   port-told number x small (Data n) is e = owing-told _ (settled-told n (data-below number n is) _) e
-  port-told number x small CommandPort is e = owing-told _ (command-told x small (commandOf x) refl) e
+  port-told number x small CommandPort is e = owing-told _ (command-told x small (commandOf (b .model) x) refl) e
   port-told number x small Unknown is e = absurd (refused-not 1 value e)
 
   pub write-told : (port x : ℕ) → x < 256 → step b (WritePort port x events place) .reply ≡ accepted value

@@ -12,7 +12,7 @@ use Rattle.refusal.specs.Reply.{Reply, accepted}
 use Rattle.channel.specs.declared.Channel.{Channel}
 use Rattle.channel.proofs.Pick.{pick-holds, pick-knowing}
 use Rattle.control.specs.declared.Command.{Command}
-use Rattle.control.specs.declared.Command.the-variants.{Nothing, LatchCount, SetMode}
+use Rattle.control.specs.declared.Command.the-variants.{Nothing, LatchCount, SetMode, ReadBack}
 use Rattle.control.specs.Control.{commandOf}
 use Rattle.event.specs.declared.Event.{Event}
 use Rattle.event.specs.declared.Event.the-variants.{Unchanged, Level}
@@ -33,6 +33,8 @@ use Rattle.ports.specs.declared.port.Port.{Port}
 use Rattle.ports.specs.declared.port.Port.the-variants.{Data, Command as CommandPort, Unknown}
 use Rattle.ports.specs.Port.{portOf}
 use Rattle.ports.specs.Settle.{placedOn, settle, untouched}
+use Rattle.ports.specs.ReadBacks.{readBacks}
+use Rattle.ports.proofs.ReadingBacks.{three-left}
 use Rattle.ports.specs.Gates.{setChannelGate}
 use Rattle.ports.specs.Reads.{readFrom, readPort}
 use Rattle.ports.specs.Writes.{controlRegisterWrite, writeTo, writePort}
@@ -92,15 +94,16 @@ module _ (b : Board) (P : List ℕ → ℕ → Outcome → Type 0)
         (λ room. accepts events _ (newPlace (place + 2)) channels (refl, refl) (event-written n level events place room .same-length) three)
 
     command-every : (command : Command) (events : List ℕ) (place : ℕ) → P events 0 (controlRegisterWrite b command events place)
-    unfolding settle untouched
+    unfolding settle untouched readBacks
     command-every Nothing events place = event-every _ (b .channels) events place (λ three. three)
     command-every (LatchCount n) events place = event-every _ _ events place (put-three n _)
     command-every (SetMode n word) events place = event-every _ _ events place (put-three n _)
+    command-every (ReadBack word) events place = event-every Unchanged (readBacks word b .channels) events place (three-left b word)
 
     write-every : (port : Port) (byte : ℕ) (events : List ℕ) (place : ℕ) → P events 0 (writeTo b port byte events place)
     unfolding settle
     write-every (Data n) byte events place = owing-every events _ (event-every _ _ events place (put-three n _))
-    write-every CommandPort byte events place = owing-every events _ (command-every (commandOf byte) events place)
+    write-every CommandPort byte events place = owing-every events _ (command-every (commandOf (b .model) byte) events place)
     write-every Unknown byte events place = refuses events 1
 
     gate-every : (n : ℕ) (level : Bool) (events : List ℕ) (place : ℕ) → P events 0 (setChannelGate b n level events place)

@@ -1,10 +1,11 @@
 -- What a step keeps of the board besides its channels and owed ticks: model and divisor always, remainder, warp and defer flag but for catch-up and run.
 -- Assumes nothing.
 use mathlib.Core.Bool.{false}
-use mathlib.Core.Path.{_≡_, refl}
+use mathlib.Core.List.{List, [], _∷_}
+use mathlib.Core.Path.{_≡_, refl, _∙_}
 use Rattle.board.specs.declared.Board.{Board}
 use Rattle.step.specs.Operation.{Operation}
-use Rattle.step.specs.Step.{step}
+use Rattle.step.specs.Step.{step, steps}
 use Rattle.step.specs.Time.{isTimeCall, TimeKept}
 use Rattle.step.proofs.Every.{every-other, every-step}
 
@@ -25,3 +26,7 @@ settings-kept b o =
     (λ events w so-far. (so-far .kept .model-kept, so-far .kept .divisor-kept))
     (λ given warp defer none since. (refl, refl))
     o
+
+pub steps-model : (b : Board) (os : List Operation) → steps b os .model ≡ b .model
+steps-model b [] = refl
+steps-model b (o ∷ os) = steps-model (step b o .board) os ∙ settings-kept b o .0

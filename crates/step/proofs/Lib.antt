@@ -13,6 +13,7 @@ pub mod Lent
 pub mod Three
 pub mod Still
 pub mod Touched
+pub mod Hearing
 pub mod Kept
 pub mod Warp
 pub mod Numbers

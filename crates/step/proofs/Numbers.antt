@@ -20,5 +20,5 @@ proved-numbers =
       ticks-11 = refl;
       ticks-12 = refl;
       ticks-25 = refl;
-      control-34 = refl;
+      control-34 = λ model. refl;
     }

@@ -14,7 +14,7 @@ use Rattle.refusal.proofs.Tests.{below, equal}
 use Rattle.channel.specs.declared.PitType.{PitType}
 use Rattle.channel.proofs.Pick.{of-pick, pick-knowing}
 use Rattle.control.specs.declared.Command.{Command}
-use Rattle.control.specs.declared.Command.the-variants.{Nothing, LatchCount, SetMode}
+use Rattle.control.specs.declared.Command.the-variants.{Nothing, LatchCount, SetMode, ReadBack}
 use Rattle.control.specs.Control.{commandOf}
 use Rattle.latch.specs.Latching as channel
 use Rattle.mode.specs.Mode as channelMode
@@ -41,7 +41,7 @@ use Rattle.step.specs.Step.{step}
 use Rattle.step.specs.Refusals.{Row, Changes, portUnknown, channelAbove2, divisorZero, ticksBelowWarp, remainderTooLarge, tooManyCounts, placePastEnd, tooManyTicks, ticksOwed, CommandDue, WriteDue, GateDue, roomOrder, timeOrder, order, makingOrder, FirstOf}
 use Rattle.step.proofs.Levels.{write-level, gate-level, mode-level, latch-level}
 use Rattle.step.proofs.Deciding.{accepts, holding, failing, tested}
-use Rattle.step.proofs.Settled.{settle-refused, untouched-refused}
+use Rattle.step.proofs.Settled.{settle-refused, untouched-refused, read-back-refused}
 use Rattle.step.proofs.Owing.{by-owed}
 
 -- what a channel's test leaves to the others
@@ -106,6 +106,7 @@ data-refused b n byte events place k =
 command-refused : (b : Board) (command : Command) (events : List ℕ) (place k : ℕ)
     → (controlRegisterWrite b command events place .reply ≡ refused k) ↔ FirstOf (roomOrder (CommandDue b command) events place) k
 command-refused b Nothing events place k = untouched-refused ⊥ events place k b (λ none. none)
+command-refused b (ReadBack word) events place k = read-back-refused ⊥ events place k b word (λ none. none)
 command-refused b (LatchCount n) events place k =
     settle-refused ⊥ events place k b n (channel.latchCount (channelAt b n)) (λ differs. differs (sym (latch-level (channelAt b n))), λ none. absurd none)
 command-refused b (SetMode n word) events place k =
@@ -131,8 +132,8 @@ write-refused b port byte events place k =
     failing (portUnknown port) (ticksOwed b ∷ roomOrder (WriteDue b (Data n) byte) events place) _ k (λ out. out (omega arith, omega arith))
     (unless-owed b events _ (roomOrder (WriteDue b (Data n) byte) events place) k (data-refused b n byte events place k)))
     (λ is.
-    failing (portUnknown port) (ticksOwed b ∷ roomOrder (CommandDue b (commandOf byte)) events place) _ k (λ out. out (omega arith, omega arith))
-    (unless-owed b events _ (roomOrder (CommandDue b (commandOf byte)) events place) k (command-refused b (commandOf byte) events place k)))
+    failing (portUnknown port) (ticksOwed b ∷ roomOrder (CommandDue b (commandOf (b .model) byte)) events place) _ k (λ out. out (omega arith, omega arith))
+    (unless-owed b events _ (roomOrder (CommandDue b (commandOf (b .model) byte)) events place) k (command-refused b (commandOf (b .model) byte) events place k)))
 
 read-refused : (b : Board) (port k : ℕ) → (readPort b port .reply ≡ refused k) ↔ FirstOf (portUnknown port ∷ []) k
 unfolding readPort

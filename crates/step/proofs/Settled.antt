@@ -11,9 +11,11 @@ use Rattle.channel.specs.declared.Channel.{Channel}
 use Rattle.event.specs.declared.Event.the-variants.{Unchanged, Level}
 use Rattle.event.specs.Event.{Placing, eventOf, placeEvent}
 use Rattle.event.proofs.Room.{by-unchanged, by-level}
+use Rattle.control.specs.declared.ReadBackWord.{ReadBackWord}
 use Rattle.board.specs.declared.Board.{Board}
 use Rattle.board.specs.Board.{channelAt}
 use Rattle.ports.specs.Settle.{callReply, settle, untouched}
+use Rattle.ports.specs.ReadBacks.{readBackWrite}
 use Rattle.step.specs.Refusals.{Changes, placePastEnd, noRoom, roomOrder, FirstOf}
 use Rattle.step.proofs.Deciding.{accepts, holding, failing}
 
@@ -59,3 +61,6 @@ module _ (due : Type 0) (events : List ℕ) (place k : ℕ) where
   pub untouched-refused : (b : Board) → (due → ⊥) → (untouched b events place .reply ≡ refused k) ↔ FirstOf (roomOrder due events place) k
   unfolding untouched
   untouched-refused b none = quiet none
+
+  pub read-back-refused : (b : Board) (word : ReadBackWord) → (due → ⊥) → (readBackWrite b word events place .reply ≡ refused k) ↔ FirstOf (roomOrder due events place) k
+  read-back-refused b word none = quiet none

@@ -49,7 +49,7 @@ module _ (b : Board) (three : length (b .channels) ≡ 3) (m : ℕ) where
   put-still n on c same = all-stand b three n on c (ap (λ (p : Pins). p .output) same) m
 
   -- an operation that leaves this channel's record leaves its output
-  stays-still : (o : Operation) → (Touches o m → ⊥) → levelAt (step b o .board) m ≡ levelAt b m
+  stays-still : (o : Operation) → (Touches (b .model) o m → ⊥) → levelAt (step b o .board) m ≡ levelAt b m
   stays-still o other = ap (λ (c : Channel). c .pins .output) (untouched-stays b m o other)
 
   read-still : (number : ℕ) (port : Port) → portOf number ≡ port → Still (readFrom b port)

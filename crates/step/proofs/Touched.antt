@@ -1,6 +1,6 @@
 -- An operation leaves the record of every channel that it does not name. Assumes nothing.
 use Prim.Native.Nat.{ℕ}
-use mathlib.Core.Bool.{Bool, true}
+use mathlib.Core.Bool.{Bool, true, false}
 use mathlib.Core.List.{List, []}
 use mathlib.Core.Path.{_≡_, refl}
 use lib.Dec.{ltb}
@@ -8,8 +8,8 @@ use Rattle.refusal.specs.Reply.{Reply, refused, accepted}
 use Rattle.channel.specs.declared.Channel.{Channel}
 use Rattle.channel.proofs.Pick.{pick-holds}
 use Rattle.control.specs.declared.Command.{Command}
-use Rattle.control.specs.declared.Command.the-variants.{Nothing, LatchCount, SetMode}
-use Rattle.control.specs.Control.{commandOf}
+use Rattle.control.specs.declared.Command.the-variants.{Nothing, LatchCount, SetMode, ReadBack}
+use Rattle.control.specs.Control.{names, commandOf}
 use Rattle.time.specs.Time.{Yield}
 use Rattle.board.specs.declared.Board.{Board}
 use Rattle.board.specs.Board.{channelAt}
@@ -23,6 +23,7 @@ use Rattle.ports.specs.declared.port.Port.the-variants.{Data, Command as Comman
 use Rattle.ports.specs.Port.{portOf}
 use Rattle.ports.specs.Settle.{settle}
 use Rattle.ports.proofs.Settling.{untouched-holds, settle-holds}
+use Rattle.ports.proofs.ReadingBacks.{unnamed-stays, read-backs-hold}
 use Rattle.ports.specs.Gates.{setChannelGate}
 use Rattle.ports.specs.Reads.{readFrom, readPort}
 use Rattle.ports.specs.Writes.{controlRegisterWrite, writeTo, writePort}
@@ -30,6 +31,10 @@ use Rattle.step.specs.Operation.{Operation, WritePort, ReadPort, SetChan
 use Rattle.step.specs.Step.{step}
 use Rattle.step.specs.Touched.{CommandTouches, WriteTouches, ReadTouches, Touches}
 use Rattle.step.proofs.Owing.{by-owed, by-timely}
+
+not-named : (named : Bool) → (named ≡ true → ⊥) → named ≡ false
+not-named true other = absurd (other refl)
+not-named false other = refl
 
 module _ (b : Board) (m : ℕ) where
   abbrev Stays : Outcome → Type 0
@@ -45,10 +50,12 @@ module _ (b : Board) (m : ℕ) where
   command-stays Nothing events place other = untouched-holds b events place (λ (d : Board). channelAt d m ≡ channelAt b m) refl
   command-stays (LatchCount n) events place other = settle-stays n _ events place other
   command-stays (SetMode n word) events place other = settle-stays n _ events place other
+  command-stays (ReadBack word) events place other =
+      read-backs-hold b events place word (λ (d : Board). channelAt d m ≡ channelAt b m) refl (unnamed-stays b word m (not-named (names word m) other))
 
-  pub write-stays : (port : Port) (byte : ℕ) (events : List ℕ) (place : ℕ) → (WriteTouches port byte m → ⊥) → Stays (writeTo b port byte events place)
+  pub write-stays : (port : Port) (byte : ℕ) (events : List ℕ) (place : ℕ) → (WriteTouches (b .model) port byte m → ⊥) → Stays (writeTo b port byte events place)
   write-stays (Data n) byte events place other = owing-stays events _ (settle-stays n _ events place other)
-  write-stays CommandPort byte events place other = owing-stays events _ (command-stays (commandOf byte) events place other)
+  write-stays CommandPort byte events place other = owing-stays events _ (command-stays (commandOf (b .model) byte) events place other)
   write-stays Unknown byte events place other = refl
 
   read-stays : (port : Port) → (ReadTouches port m → ⊥) → Stays (readFrom b port)
@@ -68,7 +75,7 @@ module _ (b : Board) (m : ℕ) where
   counts-stays n number other =
       by-channel Stays b n [] _ refl (λ on. pick-holds Stays (ltb 65536 number) (refuse 6 b []) _ refl (put-other b n m _ other))
 
-  pub untouched-stays : (o : Operation) → (Touches o m → ⊥) → channelAt (step b o .board) m ≡ channelAt b m
+  pub untouched-stays : (o : Operation) → (Touches (b .model) o m → ⊥) → channelAt (step b o .board) m ≡ channelAt b m
   unfolding setChannelGate writePort readPort loadCycle catchUp run getOutputState getChannelCount doesChannelRetrigger isDirty
   untouched-stays (WritePort port byte events place) other = write-stays (portOf port) byte events place other
   untouched-stays (ReadPort port) other = read-stays (portOf port) other

@@ -3,6 +3,7 @@ use mathlib.Core.Bool.{true, false}
 use mathlib.Core.Path.{_≡_}
 use Rattle.refusal.specs.Reply.{accepted}
 use Rattle.channel.specs.declared.ChannelMode.the-variants.{RateGenerator}
+use Rattle.channel.specs.declared.PitType.{PitType}
 use Rattle.channel.specs.declared.RwMode.the-variants.{LsbMsb}
 use Rattle.control.specs.declared.Command.the-variants.{SetMode}
 use Rattle.control.specs.Control.{commandOf}
@@ -25,4 +26,4 @@ pub record ProvedNumbers : Type 0 where
   pub ticks-12 : ticksFromTime 12 0 0 12 ≡ accepted (record { ticks = 1; remainder = 0 })
   pub ticks-25 : ticksFromTime 25 0 11 12 ≡ accepted (record { ticks = 3; remainder = 0 })
   -- "control 0x34: channel 0, both bytes, mode 2, binary"
-  pub control-34 : commandOf 0x34 ≡ SetMode 0 (record { mode = RateGenerator; «rw_mode» = LsbMsb; «bcd_mode» = false })
+  pub control-34 : (model : PitType) → commandOf model 0x34 ≡ SetMode 0 (record { mode = RateGenerator; «rw_mode» = LsbMsb; «bcd_mode» = false })

@@ -6,7 +6,7 @@ use mathlib.Core.Logic.{_⊎_}
 use mathlib.Core.Path.{_≡_}
 use lib.ListN.{length}
 use Rattle.control.specs.declared.Command.{Command}
-use Rattle.control.specs.declared.Command.the-variants.{Nothing, LatchCount, SetMode}
+use Rattle.control.specs.declared.Command.the-variants.{Nothing, LatchCount, SetMode, ReadBack}
 use Rattle.control.specs.Control.{commandOf}
 use Rattle.mode.specs.Mode.{outputAfter}
 use Rattle.board.specs.declared.Board.{Board}
@@ -66,16 +66,17 @@ ticksOwed b = record { number = 16; condition = 0 < b .owed .0 }
 abbrev pub Changes : Bool → Bool → Type 0
 Changes was is = was ≡ is → ⊥
 
--- a latch moves no output, and nothing does nothing
+-- a latch and a read-back move no output, and nothing does nothing
 abbrev pub CommandDue : Board → Command → Type 0
 CommandDue b Nothing = ⊥
 CommandDue b (LatchCount n) = ⊥
 CommandDue b (SetMode n word) = Changes (levelAt b n) (outputAfter (word .mode))
+CommandDue b (ReadBack word) = ⊥
 
 -- whether a byte to a port makes an event due
 abbrev pub WriteDue : Board → Port → ℕ → Type 0
 WriteDue b (port.Data n) byte = Changes (levelAt b n) (levelAfterWrite (channelAt b n))
-WriteDue b port.Command byte = CommandDue b (commandOf byte)
+WriteDue b port.Command byte = CommandDue b (commandOf (b .model) byte)
 WriteDue b port.Unknown byte = ⊥
 
 -- whether a gate level does

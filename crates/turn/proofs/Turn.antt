@@ -48,14 +48,15 @@ module _ (b : Board) (events : List ℕ) (place : ℕ) where
   commanded command.Nothing = refl
   commanded (command.LatchCount n) = refl
   commanded (command.SetMode n word) = refl
+  commanded (command.ReadBack word) = refl
 
-  written : (p : Port) (byte : ℕ) → writeTo b p byte events place ≡ turned b (finding.writeTurn (owes b) p byte) events place
+  written : (p : Port) (byte : ℕ) → writeTo b p byte events place ≡ turned b (finding.writeTurn (owes b) (b .model) p byte) events place
   written (port.Data n) byte = unless-owed (eqb (b .owed .0) 0) b (turn.OnChannel n (work.Write byte)) events place
   written port.Command byte =
-      ap (unlessOwed b events) (commanded (commandOf byte)) ∙ unless-owed (eqb (b .owed .0) 0) b (finding.commandTurn (commandOf byte)) events place
+      ap (unlessOwed b events) (commanded (commandOf (b .model) byte)) ∙ unless-owed (eqb (b .owed .0) 0) b (finding.commandTurn (commandOf (b .model) byte)) events place
   written port.Unknown byte = refl
 
-  pub write-is : (number byte : ℕ) → writePort b number byte events place ≡ turned b (finding.writeTurn (owes b) (portOf number) byte) events place
+  pub write-is : (number byte : ℕ) → writePort b number byte events place ≡ turned b (finding.writeTurn (owes b) (b .model) (portOf number) byte) events place
   unfolding writePort
   write-is number byte = written (portOf number) byte
 

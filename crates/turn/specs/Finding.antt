@@ -1,10 +1,11 @@
--- The turn of an operation: its port or channel found, and what is refused without a look at the board, but for whether it owes ticks, refused. Every call is found
+-- The turn of an operation: its port or channel found, and what is refused without a look at the board, but for its model and whether it owes ticks, refused. Every call is found
 -- so: by value, in a trace and of a host.
 use Prim.Native.Nat.{ℕ}
 use mathlib.Core.Bool.{Bool, true, false, cond}
 use lib.Dec.{ltb}
 use Rattle.refusal.specs.declared.Refusal.{Refusal}
 use Rattle.refusal.specs.declared.Refusal.the-variants.{PortUnknown, ChannelAbove2, TooManyCounts, TicksOwed}
+use Rattle.channel.specs.declared.PitType.{PitType}
 use Rattle.control.specs.declared.Command.{Command}
 use Rattle.control.specs.declared.Command.the-variants as command
 use Rattle.control.specs.Control.{commandOf}
@@ -15,7 +16,7 @@ use Rattle.ports.specs.declared.port.Port.{Port}
 use Rattle.ports.specs.declared.port.Port.the-variants as port
 use Rattle.turn.specs.declared.finding.Work.the-variants as work
 use Rattle.turn.specs.declared.finding.Turn.{Turn}
-use Rattle.turn.specs.declared.finding.Turn.the-variants.{OnChannel, Elapse, Reset, Untouched, Say}
+use Rattle.turn.specs.declared.finding.Turn.the-variants.{OnChannel, Elapse, Reset, ReadBack, Untouched, Say}
 
 -- "Each returns its number and the same board"
 abbrev pub refuse : Refusal → Turn
@@ -25,17 +26,18 @@ refuse refusal = Say (Refused refusal)
 abbrev pub unlessOwing : Bool → Turn → Turn
 unlessOwing owing turn = cond owing (refuse TicksOwed) turn
 
--- "one of three commands: nothing ..., latch, or mode set"
+-- "nothing ..., latch, or mode set", and the read-back of 02, L5
 abbrev pub commandTurn : Command → Turn
 commandTurn command.Nothing = Untouched
 commandTurn (command.LatchCount n) = OnChannel n work.Latch
 commandTurn (command.SetMode n word) = OnChannel n (work.SetMode word)
+commandTurn (command.ReadBack word) = ReadBack word
 
 -- 1 "port not 0x40 to 0x43", then 16, whatever the byte would do
-abbrev pub writeTurn : Bool → Port → ℕ → Turn
-writeTurn owing (port.Data n) byte = unlessOwing owing (OnChannel n (work.Write byte))
-writeTurn owing port.Command byte = unlessOwing owing (commandTurn (commandOf byte))
-writeTurn owing port.Unknown byte = refuse PortUnknown
+abbrev pub writeTurn : Bool → PitType → Port → ℕ → Turn
+writeTurn owing model (port.Data n) byte = unlessOwing owing (OnChannel n (work.Write byte))
+writeTurn owing model port.Command byte = unlessOwing owing (commandTurn (commandOf model byte))
+writeTurn owing model port.Unknown byte = refuse PortUnknown
 
 -- "The command port reads 0."
 abbrev pub readTurn : Port → Turn

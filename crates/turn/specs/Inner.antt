@@ -20,6 +20,7 @@ OnBoard (turn.OnChannel n w) = n < 3
 OnBoard (turn.Elapse given next defers) = Unit
 OnBoard turn.Reset = Unit
 OnBoard (turn.WorkOff stated) = Unit
+OnBoard (turn.ReadBack word) = Unit
 OnBoard turn.Untouched = Unit
 OnBoard (turn.Say answer) = Unit
 

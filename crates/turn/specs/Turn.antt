@@ -19,6 +19,7 @@ use Rattle.clock.specs.Clock.{elapse}
 use Rattle.ports.specs.Settle.{settle, untouched}
 use Rattle.ports.specs.Reads.{dataRead}
 use Rattle.ports.specs.Writes.{latchCount, setMode, dataWrite}
+use Rattle.ports.specs.ReadBacks.{readBackWrite}
 use Rattle.owed.specs.Worked.{workOff}
 use Rattle.turn.specs.declared.finding.Work.{Work}
 use Rattle.turn.specs.declared.finding.Work.the-variants as work
@@ -45,6 +46,7 @@ turned b (turn.OnChannel n w) events place = workOn b n w events place
 turned b (turn.Elapse given next defers) events place = withEvents events (elapse b (given .0) (next .0) (defers || b .defer))
 turned b turn.Reset events place = withEvents events (accept done (restored b))
 turned b (turn.WorkOff stated) events place = workOff b stated events place
+turned b (turn.ReadBack word) events place = readBackWrite b word events place
 turned b turn.Untouched events place = untouched b events place
 turned b (turn.Say answer) events place = record { reply = replyOf answer; board = b; events = events }
 

@@ -1,9 +1,11 @@
-// An operation with its port or channel found. What is refused without a look at the board is refused here, and what is refused while ticks are owed: of the board
-// only that is asked. Every call, of whatever form, is found by these functions.
+// An operation with its port or channel found. What is refused without a look at the channels is refused here, and what is refused while ticks are owed: of the board
+// only that is asked, and its model. Every call, of whatever form, is found by these functions.
 use board::Answer;
 use board::PortRead;
 use channel::ControlWord;
+use channel::PitType;
 use control::Command;
+use control::ReadBackWord;
 use ports::port::Port;
 use ports::port::port_of;
 use refusal::Refusal;
@@ -33,6 +35,8 @@ pub enum Turn {
     Reset,
     // How many owed ticks to work off at most.
     WorkOff(u32),
+    // Counts and status of the channels named.
+    ReadBack(ReadBackWord),
     // A command that does nothing; only the place in the event bytes is looked at.
     Untouched,
     // The board stays as it is.
@@ -45,14 +49,17 @@ pub fn refuse(refusal: Refusal) -> Turn
     Turn::Say(Answer::Refused(refusal))
 }
 
-// The command is opened as document 01 names it: a mode set carries its fields, a latch its channel, nothing returns early.
-fn command_turn(byte: u8) -> Turn
-    ensures { λ r. ⌜ Finds (commandTurn (commandOf byte)) r ⌝ }
+// The command is opened as document 01 names it: a mode set carries its fields, a latch its channel, a read-back what it asks for, nothing returns early.
+fn command_turn(byte: u8, model: PitType) -> Turn
+    ensures { λ r. ⌜ Finds (commandTurn (commandOf model byte)) r ⌝ }
 {
-    let command = control::command_of(byte);
+    let command = control::command_of(byte, model);
     let Command::SetMode(n, word) = command else {
         let Command::LatchCount(n) = command else {
-            return Turn::Untouched;
+            let Command::ReadBack(named) = command else {
+                return Turn::Untouched;
+            };
+            return Turn::ReadBack(named);
         };
         return Turn::OnChannel(n, Work::Latch);
     };
@@ -60,8 +67,8 @@ fn command_turn(byte: u8) -> Turn
 }
 
 // Refusals 1 and 16.
-pub fn write_turn(port: u16, byte: u8, owing: bool) -> Turn
-    ensures { λ r. ⌜ Finds (writeTurn owing (portOf port) byte) r ⌝ }
+pub fn write_turn(port: u16, byte: u8, owing: bool, model: PitType) -> Turn
+    ensures { λ r. ⌜ Finds (writeTurn owing model (portOf port) byte) r ⌝ }
 {
     let known = port_of(port);
     match known {
@@ -75,7 +82,7 @@ pub fn write_turn(port: u16, byte: u8, owing: bool) -> Turn
             if owing {
                 return refuse(Refusal::TicksOwed);
             }
-            command_turn(byte)
+            command_turn(byte, model)
         }
         Port::Unknown => refuse(Refusal::PortUnknown),
     }

@@ -42,14 +42,19 @@ returns-4 c =
 
 returns-5 : tie.Need-returns-5
 returns-5 c =
+    let k = c .before .before .before .before .before in
+    of (k .before .before .before) _ (k .turn4 .given .1) _ (c .before .before .read-back .ensures)
+
+returns-6 : tie.Need-returns-6
+returns-6 c =
     let k = c .before .before .before .before in
     let s = k .before .before .before in
     of s _ (k .enum-told2 .given .1) _ (c .before .before .untouched .ensures (s .args .b))
 
-returns-6 : tie.Need-returns-6
-returns-6 c =
+returns-7 : tie.Need-returns-7
+returns-7 c =
     let k = c .before in
-    of (k .before .before .before) _ (k .turn4 .given .1) _ refl
+    of (k .before .before .before) _ (k .turn5 .given .1) _ refl
 
 pub on-board-spec : {M : Type 1} → statement M
 on-board-spec =
@@ -57,6 +62,8 @@ on-board-spec =
     (tie.spec
     (λ c. search needs)
     on-channel-requires
+    (λ c. search needs)
+    (λ c κs. search needs)
     (λ c. search needs)
     (λ c κs. search needs)
     (λ c. search needs)
@@ -74,4 +81,6 @@ on-board-spec =
     returns-4
     (λ c. search needs)
     returns-5
-    returns-6)
+    (λ c. search needs)
+    returns-6
+    returns-7)

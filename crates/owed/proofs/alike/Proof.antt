@@ -17,9 +17,9 @@ returns c =
     (c .least4 .ensures, c .before .least3 .ensures, c .before .before .least2 .ensures, c .before .before .before .least .ensures, q .quiet3 .ensures, q .before .quiet2 .ensures, q .before .before .quiet .ensures) in
     let few = alike-few (a .left) (a .owed) (a .c0) (a .c1) (a .c2) (c .least4 .result) is in
     -- owning a channel tells that its element has 16 bits
-    let fits₀ : a .c0 .counter .«counting_element» < 65536 = s .good .1 .1 .0 .1 .1 .1 .1 .1 .1 .0 .1 .1 .1 .1 .0 .1 in
-    let fits₁ : a .c1 .counter .«counting_element» < 65536 = s .good .1 .1 .1 .0 .1 .1 .1 .1 .1 .1 .0 .1 .1 .1 .1 .0 .1 in
-    let fits₂ : a .c2 .counter .«counting_element» < 65536 = s .good .1 .1 .1 .1 .0 .1 .1 .1 .1 .1 .1 .0 .1 .1 .1 .1 .0 .1 in
+    let fits₀ : a .c0 .counter .«counting_element» < 65536 = s .good .1 .1 .0 .1 .1 .1 .1 .1 .1 .1 .0 .1 .1 .1 .1 .0 .1 in
+    let fits₁ : a .c1 .counter .«counting_element» < 65536 = s .good .1 .1 .1 .0 .1 .1 .1 .1 .1 .1 .1 .0 .1 .1 .1 .1 .0 .1 in
+    let fits₂ : a .c2 .counter .«counting_element» < 65536 = s .good .1 .1 .1 .1 .0 .1 .1 .1 .1 .1 .1 .1 .0 .1 .1 .1 .1 .0 .1 in
     record {
       number-is = is;
       skips₀ = quiet-skips _ (a .c0) fits₀ (few .in-quiet₀);

@@ -24,7 +24,7 @@ use Rattle.turn.specs.Inner.{OnBoard}
 use Rattle.recorded.specs.Asked.{twoLent}
 use Rattle.recorded.specs.Made.{inSix}
 use Rattle.recorded.specs.Inner.{turnedInSix}
-use Rattle.recorded.proofs.Room.{latch-unheard, nothing-unheard}
+use Rattle.recorded.proofs.Room.{latch-unheard, nothing-unheard, read-back-unheard}
 use Rattle.runner.specs.Printed.{roomOf, saidOf}
 use Rattle.runner.specs.Inner.{toTell, Puts}
 use Rattle.runner.proofs.Ticks.{three-left, all-quiet, some-made}
@@ -253,21 +253,36 @@ loop-again-11 c =
     let long : length lent ≡ 6 = search needs in
     next t _ (ap (turnedInSix (board t)) (ticks c .turn3 .given .1) ∙ some-made (board t) (three t) _ (made .result) lent long (made .ensures)) _ _ (c .before .before .say11 .ensures)
 
--- what leaves the board as it is
-abbrev says : tie.After-slice-known13 Inv-loop μ-loop → tie.After-turn4 Inv-loop μ-loop
-says c = c .before .before .before .before .before .before
+-- a read-back
+abbrev back : tie.After-slice-known13 Inv-loop μ-loop → tie.After-read-back-at3 Inv-loop μ-loop
+back c = c .before .before .before .before .before
+
+abbrev reads-back : tie.After-slice-known13 Inv-loop μ-loop → tie.After-turn4 Inv-loop μ-loop
+reads-back c = back c .before .before .before .before .before .before .before
 
 loop-again-12 : tie.Need-loop-again-12 Inv-loop μ-loop
-loop-again-12 c = let t = says c .before .before in next t _ (ap (turnedInSix (board t)) (says c .turn4 .given .1)) _ _ (c .before .before .say12 .ensures)
+loop-again-12 c =
+    let t = reads-back c .before .before in
+    next t _
+    (ap (turnedInSix (board t)) (reads-back c .turn4 .given .1)
+    ∙ read-back-unheard (board t) _ _ _ _ (back c .before .before .read-back-at .ensures) (back c .before .read-back-at2 .ensures) (back c .read-back-at3 .ensures))
+    _ _ (c .before .before .say12 .ensures)
 
--- a command that does nothing
-abbrev stays : tie.After-slice-known14 Inv-loop μ-loop → tie.After-enum-told5 Inv-loop μ-loop
-stays c = c .before .before .before .before .before
+-- what leaves the board as it is
+abbrev says : tie.After-slice-known14 Inv-loop μ-loop → tie.After-turn5 Inv-loop μ-loop
+says c = c .before .before .before .before .before .before
 
 loop-again-13 : tie.Need-loop-again-13 Inv-loop μ-loop
-loop-again-13 c =
+loop-again-13 c = let t = says c .before .before in next t _ (ap (turnedInSix (board t)) (says c .turn5 .given .1)) _ _ (c .before .before .say13 .ensures)
+
+-- a command that does nothing
+abbrev stays : tie.After-slice-known15 Inv-loop μ-loop → tie.After-enum-told5 Inv-loop μ-loop
+stays c = c .before .before .before .before .before
+
+loop-again-14 : tie.Need-loop-again-14 Inv-loop μ-loop
+loop-again-14 c =
     let t = stays c .before .before in
-    next t _ (ap (turnedInSix (board t)) (stays c .enum-told5 .given .1) ∙ nothing-unheard (board t)) _ _ (c .before .before .say13 .ensures)
+    next t _ (ap (turnedInSix (board t)) (stays c .enum-told5 .given .1) ∙ nothing-unheard (board t)) _ _ (c .before .before .say14 .ensures)
 
 returns : tie.Need-returns Inv-loop μ-loop
 returns c =
@@ -320,6 +335,8 @@ tell-spec =
     (λ c κs. search needs) (λ c κs. search needs) (λ c. less (skips c .before .before)) loop-again-10
     (λ c. search needs) (λ c κs. search needs) (λ c. search needs) (λ c. search needs) (λ c. search needs) (λ c κs. search needs)
     (λ c. less (ticks c .before .before)) loop-again-11
-    (λ c. search needs) (λ c κs. search needs) (λ c. less (says c .before .before)) loop-again-12
-    (λ c. search needs) (λ c κs. search needs) (λ c. less (stays c .before .before)) loop-again-13
+    (λ c. search needs) (λ c. search needs) (λ c. search needs) (λ c. search needs) (λ c κs. search needs) (λ c κs. search needs) (λ c κs. search needs)
+    (λ c. search needs) (λ c. search needs) (λ c. search needs) (λ c κs. search needs) (λ c. less (reads-back c .before .before)) loop-again-12
+    (λ c. search needs) (λ c κs. search needs) (λ c. less (says c .before .before)) loop-again-13
+    (λ c. search needs) (λ c κs. search needs) (λ c. less (stays c .before .before)) loop-again-14
     (λ c. c .before .loop .inv .1 .same-length) returns)

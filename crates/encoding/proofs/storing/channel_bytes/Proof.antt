@@ -6,7 +6,7 @@ use Rattle.encoding.proofs.storing.channel_bytes.Tie as tie
 
 returns : tie.Need-returns
 unfolding channelBytes
-returns c = simp (c .flag-byte .ensures, c .before .pins-bytes .ensures, c .before .before .latch-bytes .ensures, c .before .before .before .counter-bytes .ensures, c .before .before .before .before .load-bytes .ensures, c .before .before .before .before .before .reloading-bytes .ensures, c .before .before .before .before .before .before .control-bytes .ensures)
+returns c = simp (c .status-bytes .ensures, c .before .flag-byte .ensures, c .before .before .pins-bytes .ensures, c .before .before .before .latch-bytes .ensures, c .before .before .before .before .counter-bytes .ensures, c .before .before .before .before .before .load-bytes .ensures, c .before .before .before .before .before .before .reloading-bytes .ensures, c .before .before .before .before .before .before .before .control-bytes .ensures)
 
 pub channel-bytes-spec : {M : Type 1} → statement M
 channel-bytes-spec =
@@ -19,6 +19,9 @@ channel-bytes-spec =
     (λ c κs. search needs)
     (λ c κs. search needs)
     (λ c κs. search needs)
+    (λ c κs. search needs)
+    (λ c. search needs)
+    (λ c. search needs)
     (λ c. search needs)
     (λ c. search needs)
     (λ c. search needs)

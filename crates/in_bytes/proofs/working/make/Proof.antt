@@ -4,7 +4,6 @@ use mathlib.Core.Path.{sym, ap, subst, _∙_}
 use native.Mathlib.Omega.{arith}
 use denote.Ref.{now}
 use lib.Dec.{eqb}
-use Rattle.time.specs.declared.TimerTicks.{TimerTicks}
 use Rattle.time.specs.declared.SystemTicks.{SystemTicks}
 use Rattle.board_encoding.specs.Loaded.{boardIn}
 use Rattle.in_bytes.proofs.Standing.{kept}
@@ -18,28 +17,28 @@ use Rattle.in_bytes.proofs.working.make.Tie as tie
 
 returns : tie.Need-returns
 returns c =
-    let a = c .before .before .before .before .before .before .before .before .before .before .before .before .before .before .before .before .args in
+    let a = c .before .before .before .before .before .before .before .before .before .before .before .before .before .before .before .before .before .before .args in
     let board = boardIn (now (a .bytes)) in
-    let part = sym (c .before .before .before .before .before .before .before .before .part .given .1) ∙ c .before .before .before .before .before .before .before .before .before .before .part-of .ensures .0 ∙ ap (λ (t : TimerTicks). partOf (not (eqb (t .0) 0)) (a .operation)) (c .before .before .before .before .before .before .before .before .before .before .before .before .owed-in .ensures) in
+    let part = sym (c .before .before .before .before .before .before .before .before .part .given .1) ∙ c .before .before .before .before .before .before .before .before .before .before .part-of .ensures .0 ∙ (λ i. partOf (not (eqb (c .before .before .before .before .before .before .before .before .before .before .before .before .before .before .owed-in .ensures i .0) 0)) (c .before .before .before .before .before .before .before .before .before .before .before .before .model-in .ensures i) (a .operation)) in
     c .before .before .before .before .turn-in .ensures
     ∙ ap (λ (p : Part). written (parted board p (now (a .events)) (a .place)) (now (a .bytes))) part
     ∙ ap (λ o. operated o (now (a .bytes))) (sym (part-made board (a .operation) (now (a .events)) (a .place)))
 
 returns-2 : tie.Need-returns-2
 returns-2 c =
-    let a = c .before .before .before .before .before .before .before .before .before .before .before .before .before .args in
+    let a = c .before .before .before .before .before .before .before .before .before .before .before .before .before .before .before .args in
     let board = boardIn (now (a .bytes)) in
-    let part = sym (c .before .before .before .before .before .part2 .given .1) ∙ c .before .before .before .before .before .before .before .part-of .ensures .0 ∙ ap (λ (t : TimerTicks). partOf (not (eqb (t .0) 0)) (a .operation)) (c .before .before .before .before .before .before .before .before .before .owed-in .ensures) in
+    let part = sym (c .before .before .before .before .before .part2 .given .1) ∙ c .before .before .before .before .before .before .before .part-of .ensures .0 ∙ (λ i. partOf (not (eqb (c .before .before .before .before .before .before .before .before .before .before .before .owed-in .ensures i .0) 0)) (c .before .before .before .before .before .before .before .before .before .model-in .ensures i) (a .operation)) in
     c .before .before .ask .ensures (now (a .events))
     ∙ ap (λ (p : Part). written (parted board p (now (a .events)) (a .place)) (now (a .bytes))) part
     ∙ ap (λ o. operated o (now (a .bytes))) (sym (part-made board (a .operation) (now (a .events)) (a .place)))
 
 returns-3 : tie.Need-returns-3
 returns-3 c =
-    let a = c .before .before .before .before .before .before .before .before .before .before .before .before .args in
+    let a = c .before .before .before .before .before .before .before .before .before .before .before .before .before .before .args in
     let board = boardIn (now (a .bytes)) in
-    let part = sym (c .before .before .before .before .enum-told .given .1) ∙ c .before .before .before .before .before .before .part-of .ensures .0 ∙ ap (λ (t : TimerTicks). partOf (not (eqb (t .0) 0)) (a .operation)) (c .before .before .before .before .before .before .before .before .owed-in .ensures) in
-    let same = kept (now (a .bytes)) (λ p. omega (arith, c .before .before .before .before .before .before .before .before .before .before .before .slice-known .given p)) (c .before .before .before .before .before .before .before .before .before .before .before .before .pre) in
+    let part = sym (c .before .before .before .before .enum-told .given .1) ∙ c .before .before .before .before .before .before .part-of .ensures .0 ∙ (λ i. partOf (not (eqb (c .before .before .before .before .before .before .before .before .before .before .owed-in .ensures i .0) 0)) (c .before .before .before .before .before .before .before .before .model-in .ensures i) (a .operation)) in
+    let same = kept (now (a .bytes)) (λ p. omega (arith, c .before .before .before .before .before .before .before .before .before .before .before .before .before .slice-known .given p)) (c .before .before .before .before .before .before .before .before .before .before .before .before .before .before .pre) in
     (λ i. told ((c .saying .ensures ∙ ap (λ (t : SystemTicks). numbered 0 (t .0) 0 0) (c .before .before .remainder-in .ensures)) i) (sym same i) (now (a .events)))
     ∙ ap (λ (p : Part). written (parted board p (now (a .events)) (a .place)) (now (a .bytes))) part
     ∙ ap (λ o. operated o (now (a .bytes))) (sym (part-made board (a .operation) (now (a .events)) (a .place)))
@@ -50,10 +49,11 @@ make-spec =
     (tie.spec
     (λ c κs. search needs)
     (λ c κs. search needs)
+    (λ c κs. search needs)
     (λ c. search needs)
-    (λ c κs. (subst OnPart (c .before .before .before .part .given .1) (c .before .before .before .before .before .part-of .ensures .1), c .before .before .before .before .before .before .before .before .before .before .before .pre))
+    (λ c κs. (subst OnPart (c .before .before .before .part .given .1) (c .before .before .before .before .before .part-of .ensures .1), c .before .before .before .before .before .before .before .before .before .before .before .before .before .pre))
     (λ c. search needs)
-    (λ c κs. (subst OnPart (c .before .before .part2 .given .1) (c .before .before .before .before .part-of .ensures .1), c .before .before .before .before .before .before .before .before .before .before .pre))
+    (λ c κs. (subst OnPart (c .before .before .part2 .given .1) (c .before .before .before .before .part-of .ensures .1), c .before .before .before .before .before .before .before .before .before .before .before .before .pre))
     (λ c. search needs)
     (λ c κs. search needs)
     (λ c. search needs)

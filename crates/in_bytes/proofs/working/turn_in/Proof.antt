@@ -36,18 +36,23 @@ returns-4 c =
 
 returns-5 : tie.Need-returns-5
 returns-5 c =
+    let a = c .before .before .before .before .before .before .before .before .before .before .before .before .args in
+    c .before .before .before .before .read-back .ensures ∙ ap (λ t. written (turned (boardIn (now (a .bytes))) t (now (a .events)) (a .place)) (now (a .bytes))) (sym (c .before .before .before .before .before .before .before .before .turn4 .given .1))
+
+returns-6 : tie.Need-returns-6
+returns-6 c =
     let a = c .before .before .before .before .before .before .before .before .before .args in
     let same = kept (now (a .bytes)) (λ p. omega (arith, c .before .before .before .before .before .before .before .before .slice-known .given p)) (c .before .before .before .before .before .before .before .before .before .pre .1) in
     (λ i. told (c .numbers-of .ensures i) (sym same i) (c .before .before .before .untouched .last .0))
     ∙ ap (λ o. written o (now (a .bytes))) (c .before .before .before .untouched .ensures (boardIn (now (a .bytes))))
     ∙ ap (λ t. written (turned (boardIn (now (a .bytes))) t (now (a .events)) (a .place)) (now (a .bytes))) (sym (c .before .before .before .before .before .enum-told2 .given .1))
 
-returns-6 : tie.Need-returns-6
-returns-6 c =
+returns-7 : tie.Need-returns-7
+returns-7 c =
     let a = c .before .before .before .before .before .before .args in
     let same = kept (now (a .bytes)) (λ p. omega (arith, c .before .before .before .before .before .slice-known .given p)) (c .before .before .before .before .before .before .pre .1) in
     (λ i. told (c .numbers-of2 .ensures i) (sym same i) (now (a .events)))
-    ∙ ap (λ t. written (turned (boardIn (now (a .bytes))) t (now (a .events)) (a .place)) (now (a .bytes))) (sym (c .before .before .turn4 .given .1))
+    ∙ ap (λ t. written (turned (boardIn (now (a .bytes))) t (now (a .events)) (a .place)) (now (a .bytes))) (sym (c .before .before .turn5 .given .1))
 
 pub turn-in-spec : {M : Type 1} → statement M
 turn-in-spec =
@@ -55,6 +60,8 @@ turn-in-spec =
     (tie.spec
     (λ c. search needs)
     on-channel-requires
+    (λ c. search needs)
+    (λ c κs. search needs)
     (λ c. search needs)
     (λ c κs. search needs)
     (λ c. search needs)
@@ -77,5 +84,8 @@ turn-in-spec =
     (λ c. search needs)
     returns-4
     (λ c. search needs)
+    (λ c. search needs)
     returns-5
-    returns-6)
+    (λ c. search needs)
+    returns-6
+    returns-7)

@@ -10,18 +10,23 @@ use Rattle.turn.proofs.finding.command_turn.Tie as tie
 
 returns : tie.Need-returns
 returns c =
-    let asked = c .before .before .command-of in
-    (sym (ap commandTurn (sym (asked .ensures) ∙ nothing-left (asked .result) (c .before .match .keys2) (c .match2 .keys2))), tt)
+    let asked = c .before .before .before .command-of in
+    (sym (ap commandTurn (sym (asked .ensures) ∙ nothing-left (asked .result) (c .before .before .match .keys2) (c .before .match2 .keys2) (c .match3 .keys2))), tt)
 
 returns-2 : tie.Need-returns-2
 returns-2 c =
-    let is = sym (c .before .before .before .before .command-of .ensures) ∙ c .before .command2 .given .1 in
-    (sym (ap commandTurn is), named-below _ (omega arith) _ is)
+    let is = sym (c .before .before .before .before .before .command-of .ensures) ∙ c .before .command3 .given .1 in
+    (sym (ap commandTurn is), tt)
 
 returns-3 : tie.Need-returns-3
 returns-3 c =
+    let is = sym (c .before .before .before .before .command-of .ensures) ∙ c .before .command2 .given .1 in
+    (sym (ap commandTurn is), named-below _ _ (omega arith) _ is)
+
+returns-4 : tie.Need-returns-4
+returns-4 c =
     let is = sym (c .before .before .before .command-of .ensures) ∙ c .before .command .given .1 in
-    (sym (ap commandTurn is), named-below _ (omega arith) _ is)
+    (sym (ap commandTurn is), named-below _ _ (omega arith) _ is)
 
 pub command-turn-spec : {M : Type 1} → statement M
 command-turn-spec =
@@ -30,6 +35,8 @@ command-turn-spec =
     (λ c κs. search needs)
     (λ c. search needs)
     (λ c. search needs)
+    (λ c. search needs)
     returns
     returns-2
-    returns-3)
+    returns-3
+    returns-4)

@@ -9,8 +9,8 @@ use Rattle.turn.proofs.finding.write_turn.Tie as tie
 returns : tie.Need-returns
 returns c = rw (c .refuse .ensures, c .before .if1 .taken, sym (c .before .before .before .before .before .port-of .ensures) ∙ c .before .before .before .known .given .1) (refl, tt)
 
-cast-t9 : tie.Need-cast-t9
-cast-t9 c = omega (arith, data-below _ _ (sym (c .before .before .before .before .port-of .ensures) ∙ c .before .before .known .given .1))
+cast-t10 : tie.Need-cast-t10
+cast-t10 c = omega (arith, data-below _ _ (sym (c .before .before .before .before .port-of .ensures) ∙ c .before .before .known .given .1))
 
 returns-2 : tie.Need-returns-2
 returns-2 c = rw (c .refuse2 .ensures, c .before .if2 .taken, sym (c .before .before .before .before .port-of .ensures) ∙ c .before .before .enum-told .given .1) (refl, tt)
@@ -34,7 +34,7 @@ write-turn-spec =
     (λ c. search needs)
     (λ c κs. search needs)
     returns
-    cast-t9
+    cast-t10
     (λ c. search needs)
     (λ c κs. search needs)
     returns-2

@@ -1,0 +1,4 @@
+pub mod Knows
+pub mod Channels
+pub mod Turns
+pub mod Clear
