@@ -2,6 +2,7 @@
 // document 01 says "Run only", and beside them places at the end of the event bytes and the largest remainder.
 use board::Answer;
 use board::Board;
+use channel::Channel;
 use channel::PitType;
 use libc::STDOUT_FILENO;
 use refusal::Refusal;
@@ -18,6 +19,11 @@ const MODE_2: u8 = 0x34;
 
 // Latch channel 0: no event is due.
 const LATCH: u8 = 0;
+
+// Read-backs that name all three channels: of counts and status, and of neither.
+const ALL_THREE: u8 = 0xCE;
+
+const ASKS_NOTHING: u8 = 0xFE;
 
 fn say(text: &[u8]) {
     io::write_all(STDOUT_FILENO, text);
@@ -155,6 +161,36 @@ fn write_owing(port: u16, place: usize) {
     say(b"\n");
 }
 
+fn say_held(c: Channel) {
+    let l = c.latch;
+    let s = c.status;
+    if l.count_is_latched {
+        say(b", latched");
+    } else {
+        say(b", free");
+    }
+    say_number(b" status ", s.status_latch as u32);
+}
+
+// A read-back on an 8254, after so many system ticks, with three event bytes lent: 16, then 7, and never 8. What it leaves of the three channels.
+fn read_back(byte: u8, ticks: u32, place: usize) {
+    say_number(b"read-back ", byte as u32);
+    say_number(b" after ", ticks);
+    say_place(b" at place ", place);
+    say(b" of 3: ");
+    let made = Board::new(PitType::Model8254, DIVISOR);
+    let start = calls::run(made.board, SystemTicks(ticks));
+    let mut events = [OLD_BYTE; 3];
+    let r = calls::write_port(start.board, 0x43, byte, &mut events, place);
+    let answer = r.answer;
+    say_answer(answer);
+    let b = r.board;
+    say_held(b.channels[0]);
+    say_held(b.channels[1]);
+    say_held(b.channels[2]);
+    say(b"\n");
+}
+
 // Channel 0 in mode 2 with a count of 2, whose output changes with every tick after the first; and so many ticks owed.
 fn pulsing(owed: u32) -> Board {
     let mut events = [OLD_BYTE; 2];
@@ -212,6 +248,11 @@ fn main() {
     control(b"mode set", MODE_2, 4);
     control(b"latch", LATCH, 3);
     control(b"latch", LATCH, 4);
+    read_back(ALL_THREE, 11, 3);
+    read_back(ALL_THREE, 11, 4);
+    read_back(ALL_THREE, 12, 4);
+    read_back(ASKS_NOTHING, 11, 0);
+    read_back(ASKS_NOTHING, 12, 0);
     write_owing(0x44, 4);
     write_owing(0x43, 4);
     write_owing(0x42, 0);

@@ -23,6 +23,11 @@ const BOTH_BYTES: u8 = 0x30;
 
 const BOTH_BYTES_BCD: u8 = 0x31;
 
+// The read-backs of channel 0 on the 8254: its status, and its status and count.
+const READ_STATUS: u8 = 0xE2;
+
+const READ_BOTH: u8 = 0xC2;
+
 // A byte read, and the board after it.
 struct Got {
     byte: u8,
@@ -38,6 +43,11 @@ struct Bytes {
 
 fn fresh() -> Board {
     let made = Board::new(PitType::Model8253, 12);
+    made.board
+}
+
+fn fresh_8254() -> Board {
+    let made = Board::new(PitType::Model8254, 12);
     made.board
 }
 
@@ -175,6 +185,24 @@ fn exclusions() {
     );
 }
 
+// The status comes before the count: read back after the latch, or held before the reading begins.
+fn read_backs() {
+    let held = latch(counts(fresh_8254(), 1));
+    case(
+        b"read-back",
+        read_two(write(held, COMMAND, READ_STATUS)),
+        read_two(held),
+        0xFFFF,
+    );
+    let status = counts(write(fresh_8254(), COMMAND, READ_STATUS), 1);
+    case(
+        b"status held",
+        latch_and_read(status),
+        read_two(held),
+        0xFFFF,
+    );
+}
+
 // No latch of the reading's own: the output latch still has the count that was latched last, or the one from before a mode set.
 fn unlatched() {
     let reading = read_two(counts(latch(fresh()), 1));
@@ -269,6 +297,7 @@ fn in_one_call() {
     say_count(b"latched", latch(fresh()), 0);
     let first = read(fresh());
     say_count(b"half-read word", first.board, 0);
+    say_count(b"status held", write(fresh_8254(), COMMAND, READ_STATUS), 0);
 }
 
 fn say_half(half: WhichHalf) {
@@ -345,12 +374,30 @@ fn live_words() {
     say(b"\n");
 }
 
+// A count of 5 read back with its status: the null count is set before the load and clear after it. The same bytes on an 8253 read nothing back.
+fn status_words() {
+    let written = write(write(fresh_8254(), DATA, 5), DATA, 0);
+    say(b"status and count, before the load:");
+    let before = say_two(say_read(write(written, COMMAND, READ_BOTH), DATA));
+    say(b"\nstatus and count, after the load:");
+    let loaded = calls::load_cycle(before, 0);
+    say_two(say_read(write(loaded.board, COMMAND, READ_BOTH), DATA));
+    say(b"\nstatus in the middle of a held word:");
+    let half = say_read(latch(load(fresh_8254(), 0x00, 0x01)), DATA);
+    say_two(write(half, COMMAND, READ_STATUS));
+    say(b"\nthe same bytes on an 8253:");
+    say_two(write(load(fresh(), 5, 0), COMMAND, READ_BOTH));
+    say(b"\n");
+}
+
 fn main() {
     exclusions();
+    read_backs();
     unlatched();
     conditions();
     refusals();
     in_one_call();
     torn_words();
     live_words();
+    status_words();
 }
