@@ -1,20 +1,20 @@
 //! Random calls of `pit_board_new` and `pit_board_operation` through two archives. After each call the status and all lent bytes must be
 //! the same, with those before and past them; where the old archive is of before request L3, without the words of reads.
 
-use crate::ours::{has_words, Door, Operation, LENGTH, NEW, OLD, READ};
+use crate::ours::{has_todays_form, has_words, Door, Operation, LENGTH, NEW, OLD, READ};
 use std::collections::BTreeMap;
 
 /// The limit of each byte of a record, as docs/ENCODING.md has it; a number's bytes have none.
-const RECORD: [u8; 29] = {
+const RECORD: [u8; 31] = {
     const N: u8 = 255;
-    [5, 2, 1, 1, 1, N, N, N, N, N, N, 1, 1, 1, 6, N, N, N, N, N, N, 1, N, N, 1, 1, 1, 1, 1]
+    [5, 2, 1, 1, 1, N, N, N, N, N, N, 1, 1, 1, 6, N, N, N, N, N, N, 1, N, N, 1, 1, 1, 1, 1, N, 1]
 };
-const MODEL: usize = 87;
-const DIVISOR: usize = 88;
-const REMAINDER: usize = 92;
-const WARP: usize = 96;
-const DEFER: usize = 100;
-const OWED: usize = 101;
+const MODEL: usize = 93;
+const DIVISOR: usize = 94;
+const REMAINDER: usize = 98;
+const WARP: usize = 102;
+const DEFER: usize = 106;
+const OWED: usize = 107;
 
 const CODES: [u8; 14] = [1, 2, 3, 4, 5, 6, 7, 8, 9, 17, 18, 19, 20, 21];
 /// What `pit_board_operation` can return.
@@ -30,7 +30,7 @@ type Board = [u8; LENGTH];
 fn limit(place: usize) -> u8 {
     match place {
         MODEL | DEFER => 1,
-        0..MODEL => RECORD[place % 29],
+        0..MODEL => RECORD[place % RECORD.len()],
         _ => 255,
     }
 }
@@ -223,8 +223,12 @@ fn fresh(random: &mut Random) -> Board {
     board
 }
 
-/// Chains of calls, each on what the last left, from boards of any content and fresh ones. The exit status is 1 where any call differs.
+/// Chains of calls, each on what the last left, from boards of any content and fresh ones. The exit status is 1 where any call differs, 2 where the old archive's boards have another form.
 pub fn run(calls: u64, seed: u64) {
+    if !has_todays_form(OLD) {
+        eprintln!("the old archive's boards have another form: its calls cannot be held against today's");
+        std::process::exit(2);
+    }
     let mut random = Random(seed);
     let mut board = random.board();
     let mut statuses = BTreeMap::from(STATUSES.map(|status| (status, 0)));

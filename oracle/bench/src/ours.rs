@@ -5,7 +5,7 @@ pub const READ: u8 = 2;
 const WORK_OFF: u8 = 9;
 
 /// Bytes of a board.
-pub const LENGTH: usize = 105;
+pub const LENGTH: usize = 111;
 
 type BoardNew = unsafe extern "C" fn(board: *mut u8, board_len: usize, model: u8, divisor: u32) -> u32;
 type BoardOperation = unsafe extern "C" fn(
@@ -117,6 +117,12 @@ pub fn replay(trace: &[u8], out: &mut [u8]) -> Option<usize> {
 pub fn has_words(door: Door) -> bool {
     let answer = Board::fresh(door, 0, 12).call(&mut [], READ, 0x40, 0).expect("a port that is there");
     answer[8] != 0
+}
+
+/// Whether an archive's boards are as long as today's: request L5. One of before writes fewer bytes.
+pub fn has_todays_form(door: Door) -> bool {
+    let mut bytes = [0xFF; LENGTH];
+    door.fresh(&mut bytes, 0, 12) == 0 && bytes[LENGTH - 1] == 0
 }
 
 /// A board in bytes, behind one of the doors.

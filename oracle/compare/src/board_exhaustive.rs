@@ -1,14 +1,15 @@
-//! Every port and channel number, every control and data byte, every place of a read on all three channels, every gate edge at every event room and place, and
+//! Every port and channel number, every control and data byte, read-backs beside all that is held, every place of a read on all three channels, every gate edge at every event room and place, and
 //! every time call at the edges of warp, divisor and the 32 bits.
 
 use crate::board_fields::BoardField;
 use crate::board_judge::BoardJudge;
 use crate::board_operations::{operation, NAMES};
 use crate::exhaustive::{ACCESSES, FLAG};
-use crate::fields::{each_combination, ACCESS, ELEMENT, GATE, LATCHED, MODE, OUTPUT, READ_STATE, STATE};
+use crate::fields::{each_combination, Field, ACCESS, ELEMENT, GATE, LATCHED, MODE, NULL_COUNT, OUTPUT, READ_STATE, STATE, STATUS_LATCH};
 use crate::random::Random;
-use original::pit::board::{fresh, put_number, Board, DEFER, DIVISOR, MODEL, REMAINDER, WARP};
+use original::pit::board::{fresh, put_number, record_at, Board, DEFER, DIVISOR, MODEL, REMAINDER, WARP};
 use original::pit::board_operation::{BoardOperation, Events, EVENT_ROOM};
+use original::pit::record::RECORD_BYTES;
 
 const ROOMS: std::ops::RangeInclusive<u8> = 0..=6;
 const ROOMY: Events = Events { bytes: [0xEE; EVENT_ROOM], len: 8 };
@@ -20,6 +21,7 @@ const SPANS: [u32; 14] = [0, 1, 2, 3, 11, 12, 13, 24, 25, 0x7FFF_FFFF, 0x8000_00
 pub fn run(judge: &mut BoardJudge) {
     targets(judge);
     bytes(judge);
+    read_backs(judge);
     reads(judge);
     gates(judge);
     counts(judge);
@@ -57,18 +59,51 @@ fn bytes(judge: &mut BoardJudge) {
     }
 }
 
-/// Every access, place of a read and latch of each channel beside every one of the others', so that no channel's words pass for another's. From each, four reads of every port: the
+/// Every control byte on both models, with each channel latched or not, status held or not, half read or not, mark set or not, beside some of the others'; and every byte for channel 3 on
+/// the 8254 beside every one of the others'. After each, two reads of every data port.
+fn read_backs(judge: &mut BoardJudge) {
+    let mut random = Random(26);
+    let chosen: &[(&Field, &[u32])] = &[(LATCHED, FLAG), (STATUS_LATCH, &[0, 0x5B]), (READ_STATE, FLAG), (NULL_COUNT, FLAG)];
+    let mut kept = Vec::new();
+    each_combination(&[0; RECORD_BYTES], chosen, &mut |record| kept.push(*record));
+    let number = kept.len();
+    let ask = |judge: &mut BoardJudge, random: &mut Random, model: u8, byte: u32, three: [usize; 3]| {
+        let mut board = random.board();
+        board[MODEL] = model;
+        for (c, of) in three.into_iter().enumerate() {
+            chosen.iter().for_each(|(field, _)| field.put(&mut board[record_at(c)..], field.get(&kept[of % number])));
+        }
+        judge.ask(&board, &ROOMY, operation(1, 0x43, byte)).board
+    };
+    for (byte, of) in (0..256).flat_map(|byte| (0..number).map(move |of| (byte, of))) {
+        for (model, turn) in [(0, 0), (0, 1), (1, 0), (1, 1), (1, 2)] {
+            let mut board = ask(judge, &mut random, model, byte, [of, of + 5 + turn, of + 11 + 3 * turn]);
+            for port in [0x40, 0x41, 0x42, 0x40, 0x41, 0x42] {
+                board = judge.ask(&board, &ROOMY, operation(2, port, 0)).board;
+            }
+        }
+    }
+    for (byte, three) in (0xC0..256).flat_map(|byte| (0..number.pow(3)).map(move |three| (byte, three))) {
+        ask(judge, &mut random, 1, byte, [three, three / number, three / number.pow(2)]);
+    }
+}
+
+/// Every access, place of a read and latch of each channel, with a status held and without, beside every one of the others', so that no channel's words pass for another's. From each, four reads of every port: the
 /// command port's too, whatever is latched.
 fn reads(judge: &mut BoardJudge) {
     let mut random = Random(25);
     let mut places = Vec::new();
-    each_combination(&[0; 29], &[(ACCESS, ACCESSES), (READ_STATE, FLAG), (LATCHED, FLAG)], &mut |record| places.push(*record));
+    each_combination(
+        &[0; RECORD_BYTES],
+        &[(ACCESS, ACCESSES), (READ_STATE, FLAG), (LATCHED, FLAG), (STATUS_LATCH, &[0, 0x5B])],
+        &mut |record| places.push(*record),
+    );
     let number = places.len();
     for (three, port) in (0..number.pow(3)).flat_map(|three| (0x40..=0x43).map(move |port| (three, port))) {
         let mut board = random.board();
         for (c, place) in [three % number, three / number % number, three / number.pow(2)].into_iter().enumerate() {
-            for field in [ACCESS, READ_STATE, LATCHED] {
-                field.put(&mut board[29 * c..], field.get(&places[place]));
+            for field in [ACCESS, READ_STATE, LATCHED, STATUS_LATCH] {
+                field.put(&mut board[record_at(c)..], field.get(&places[place]));
             }
         }
         for _ in 0..4 {
@@ -84,7 +119,7 @@ fn gates(judge: &mut BoardJudge) {
     for (c, mode, state) in combinations {
         for (levels, (room, place)) in (0..8).flat_map(|levels| rooms_and_places().map(move |at| (levels, at))) {
             let mut board = random.board();
-            let record = &mut board[29 * usize::from(c)..];
+            let record = &mut board[record_at(usize::from(c))..];
             for (field, value) in [(MODE, mode), (STATE, state), (GATE, levels & 1), (OUTPUT, levels >> 1 & 1)] {
                 field.put(record, value);
             }
@@ -101,7 +136,7 @@ fn counts(judge: &mut BoardJudge) {
     for (number, c) in numbers.iter().flat_map(|number| (0..3).map(move |c| (*number, c))) {
         for (element, bcd) in [0, 1, 0x10, 0x1000, 0x9999, 0xABCD, 0xFFFF].iter().flat_map(|element| [(element, 0), (element, 1)]) {
             let mut board = random.board();
-            ELEMENT.put(&mut board[29 * usize::from(c)..], *element);
+            ELEMENT.put(&mut board[record_at(usize::from(c))..], *element);
             BoardField::named(&format!("bcd_mode:{c}")).expect("a field").put(&mut board, bcd);
             judge.ask(&board, &ROOMY, operation(4, c, number));
         }

@@ -1,7 +1,7 @@
 //! The fields of a board by name: those of its three records, and its own.
 
 use crate::fields::{field, Field, FIELDS};
-use original::pit::board::{Board, DEFER, DIVISOR, MODEL, OWED, REMAINDER, WARP};
+use original::pit::board::{record_at, Board, DEFER, DIVISOR, MODEL, OWED, REMAINDER, WARP};
 
 /// What a board holds beside its records.
 pub const OWN: [Field; 6] = [
@@ -41,7 +41,7 @@ impl BoardField {
 
     /// Where the record of the field's channel begins; the board's own fields count from its front.
     fn from(&self) -> usize {
-        29 * self.channel.unwrap_or(0)
+        record_at(self.channel.unwrap_or(0))
     }
 
     pub fn get(&self, board: &Board) -> u32 {

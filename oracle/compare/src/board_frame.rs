@@ -63,7 +63,7 @@ impl BoardFrame {
         let sum = board.iter().fold(u32::from(op.code), |sum, byte| sum.wrapping_mul(31).wrapping_add(u32::from(*byte)));
         let filler = (sum >> 8) as u8;
         let mut bytes = [filler; FRAME];
-        bytes[..6].copy_from_slice(&[3, LENGTH as u8 + (sum % 16) as u8, events.len, 16 + (sum / 16 % 17) as u8, op.code, filler]);
+        bytes[..6].copy_from_slice(&[3, LENGTH as u8 + (sum % 10) as u8, events.len, 16 + (sum / 10 % 17) as u8, op.code, filler]);
         bytes[6..8].copy_from_slice(&op.target.to_le_bytes());
         bytes[8..12].copy_from_slice(&op.number.to_le_bytes());
         bytes[16..24].copy_from_slice(&op.place.to_le_bytes());

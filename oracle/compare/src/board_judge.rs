@@ -4,6 +4,7 @@ use crate::board_fields::{all, differing};
 use crate::board_frame::BoardFrame;
 use crate::board_operations::{self, NAMES};
 use crate::ours::{Call, Ours};
+use crate::read_back;
 use crate::reference::{Reference, WORK_OFF};
 use crate::words_off::Pairs;
 use original::pit::board::{fresh, Board};
@@ -35,6 +36,8 @@ pub struct BoardJudge<'a> {
     pub ticks: u64,
     /// How often the reads said which words.
     pub pairs: Pairs,
+    /// Port writes, not refused, that ask for a count or a status of a channel.
+    pub read_backs: u64,
     /// Calls that only docs/ENCODING.md judges: refused ones, and those that make a board.
     pub refused: u64,
     pub made: u64,
@@ -47,8 +50,9 @@ impl<'a> BoardJudge<'a> {
     pub fn new(ours: &'a mut Ours) -> Self {
         let (waiting, frames, none) = (Vec::with_capacity(MOST), Vec::with_capacity(MOST), [0; NAMES.len()]);
         let (reference, refusals, pairs) = (Reference::default(), [0; 17], Pairs::default());
-        let (events, ticks, refused, made, differ, said) = (0, 0, 0, 0, 0, 0);
-        Self { reference, ours, waiting, frames, compared: none, refusals, events, ticks, pairs, refused, made, differ, said, seen: none }
+        let (events, ticks, read_backs, refused, made, differ, said) = (0, 0, 0, 0, 0, 0, 0);
+        let (compared, seen) = (none, none);
+        Self { reference, ours, waiting, frames, compared, refusals, events, ticks, pairs, read_backs, refused, made, differ, said, seen }
     }
 
     pub fn total(&self) -> u64 {
@@ -69,6 +73,7 @@ impl<'a> BoardJudge<'a> {
         if op.code == 2 && outcome.status == 0 {
             self.pairs.add(outcome.numbers.1 as u8, outcome.numbers.2 as u8);
         }
+        self.read_backs += u64::from(outcome.status == 0 && read_back::reads_back(start, op));
         if self.frames.len() == MOST {
             self.settle();
         }

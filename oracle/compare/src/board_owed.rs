@@ -6,7 +6,7 @@ use crate::board_operations::{operation, NAMES};
 use crate::fields::{ELEMENT, GATE, MODE, RELOAD, STATE};
 use crate::random::Random;
 use crate::reference::WORK_OFF;
-use original::pit::board::{put_number, Board, DIVISOR, OWED, REMAINDER, WARP};
+use original::pit::board::{put_number, record_at, Board, DIVISOR, MODEL, OWED, REMAINDER, WARP};
 use original::pit::board_operation::BoardOperation;
 
 const OWED_TICKS: [u32; 6] = [0, 1, 2, 3, 65_536, u32::MAX];
@@ -14,6 +14,7 @@ const STATED: [u32; 9] = [0, 1, 2, 3, 4, 17, 65_536, 65_537, u32::MAX];
 
 pub fn run(judge: &mut BoardJudge) {
     waiting(judge);
+    read_backs(judge);
     times(judge);
     working_off(judge);
     many(judge);
@@ -48,6 +49,18 @@ fn waiting(judge: &mut BoardJudge) {
     }
 }
 
+/// Every control byte for channel 3 on both models, with every room and place: 16 also where the byte does nothing, and before 7; never 8.
+fn read_backs(judge: &mut BoardJudge) {
+    let mut random = Random(65);
+    for (byte, model) in (0xC0..256).flat_map(|byte| [(byte, 0), (byte, 1)]) {
+        for (room, place) in rooms_and_places() {
+            let (mut board, events) = (owing(random.board(), random.below(2) as u32), random.events_of(room));
+            board[MODEL] = model;
+            judge.ask(&board, &events, BoardOperation { place, ..operation(1, 0x43, byte) });
+        }
+    }
+}
+
 /// Time calls: 3 comes before 16, and 4 and 5 behind it.
 fn times(judge: &mut BoardJudge) {
     let mut random = Random(62);
@@ -78,7 +91,7 @@ fn working_off(judge: &mut BoardJudge) {
 fn restless(random: &mut Random) -> Board {
     let mut board = random.ticking_board();
     for c in 0..3 {
-        let record = &mut board[29 * c..];
+        let record = &mut board[record_at(c)..];
         for (field, value) in [(MODE, random.one_of(&[2, 3])), (STATE, 5), (GATE, 1), (RELOAD, 2), (ELEMENT, 2)] {
             field.put(record, value);
         }
@@ -94,7 +107,7 @@ fn many(judge: &mut BoardJudge) {
             let mut board = owing(random.ticking_board(), owed);
             for c in 0..3 {
                 for (field, value) in [(MODE, (mode + c as u32) % 6), (STATE, 5), (GATE, 1), (RELOAD, 0), (ELEMENT, 0)] {
-                    field.put(&mut board[29 * c..], value);
+                    field.put(&mut board[record_at(c)..], value);
                 }
             }
             let events = random.events_of(48);

@@ -4,7 +4,7 @@ use crate::board_judge::BoardJudge;
 use crate::board_operations::operation;
 use crate::random::Random;
 use crate::reference::WORK_OFF;
-use original::pit::board::{fresh, number_at, put_number, Board, DEFER, DIVISOR, LENGTH, MODEL, OWED, REMAINDER, WARP};
+use original::pit::board::{fresh, number_at, put_number, put_record, Board, DEFER, DIVISOR, LENGTH, MODEL, OWED, REMAINDER, WARP};
 use original::pit::board_operation::{BoardOperation, Events, EVENT_ROOM};
 use original::pit::board_time::quotient;
 
@@ -46,7 +46,7 @@ impl Random {
     pub fn board(&mut self) -> Board {
         let mut board = [0; LENGTH];
         for c in 0..3 {
-            board[29 * c..29 * c + 29].copy_from_slice(&self.record());
+            put_record(&mut board, c, &self.record());
         }
         let divisor = self.divisor();
         board[MODEL] = self.below(2) as u8;
@@ -126,6 +126,14 @@ impl Random {
             (0x43, _) => any,
             (_, 0..=3) => self.below(6) as u8,
             _ => any,
+        }
+    }
+
+    /// The same operation, or in the place of every third control byte one for channel 3. The frozen traces are made without these, so that they stay as they were.
+    pub fn often_for_channel_3(&mut self, op: BoardOperation) -> BoardOperation {
+        match (op.code, op.target) {
+            (1, 0x43) if self.one_in(3) => BoardOperation { number: op.number | 0xC0, ..op },
+            _ => op,
         }
     }
 
@@ -216,7 +224,8 @@ pub fn run(judge: &mut BoardJudge, operations: u64, seed: u64) {
         }
         for _ in 0..chain.min(left) {
             let events = random.events();
-            board = judge.ask(&board, &events, random.board_operation(&board, &events)).board;
+            let op = random.board_operation(&board, &events);
+            board = judge.ask(&board, &events, random.often_for_channel_3(op)).board;
             // Not all ticks are worked off: some are forgotten, so that the original is asked more.
             if random.one_in(4) {
                 put_number(&mut board, OWED, 0);

@@ -110,7 +110,7 @@ fn any_of(random: &mut Random, code: u8) -> BoardOperation {
 /// Every value above the limit, in every limited place.
 fn unreadable_bytes(judge: &mut BoardJudge) {
     let mut random = Random(33);
-    for field in all().filter(|field| field.field.width == 1) {
+    for field in all().filter(|field| field.field.limited()) {
         for value in field.field.limit + 1..=255 {
             let mut board = random.board();
             field.put(&mut board, value);
@@ -145,7 +145,7 @@ fn bad_operations(judge: &mut BoardJudge) {
 /// 01's own reasons come, which `ask` judges.
 fn order(judge: &mut BoardJudge) {
     let mut random = Random(35);
-    let limited: Vec<_> = all().filter(|field| field.field.width == 1).collect();
+    let limited: Vec<_> = all().filter(|field| field.field.limited()).collect();
     for (code, reasons) in (0..=255).flat_map(|code| (0..64u32).map(move |reasons| (code, reasons & 15))) {
         let mut op = any_of(&mut random, code);
         if allowed(op) && reasons & 4 != 0 {

@@ -5,14 +5,18 @@ use crate::fields::Field;
 use crate::frame::Frame;
 use crate::operations::operation;
 use crate::ours::Ours;
+use crate::read_back::bare;
 use crate::tick_ours;
 use original::pit::operation::{fresh, model, Operation, Oracle};
-use original::pit::record::Record;
+use original::pit::record::{Record, RECORD_BYTES};
 use original::pit::stands;
 use original::pit::ticking::Ticker;
 use original::pit::words::Words;
 use std::fs;
 use std::path::Path;
+
+/// The lowest control byte for channel 3.
+const CHANNEL_3: u8 = 0xC0;
 
 const FOLDER: &str = concat!(env!("CARGO_MANIFEST_DIR"), "/../differences");
 
@@ -40,6 +44,8 @@ enum Original {
     By01,
     /// The same, and its own tick where ours ticks.
     OwnTick,
+    /// The same as by 01, where ours has the read-back of request L5.
+    NoReadBack,
 }
 
 struct Bench<'a> {
@@ -47,8 +53,8 @@ struct Bench<'a> {
     oracle: Oracle,
     ticker: Ticker,
     kind: Original,
-    /// Whether there was a tick: from then on the two may differ.
-    ticked: bool,
+    /// Whether there was a tick, or on the 8254 a control byte for channel 3: from then on the two may differ.
+    apart: bool,
     model: u8,
     ours: Side,
     original: Side,
@@ -85,7 +91,7 @@ fn run_file(calls: &mut Ours, path: &Path) -> Result<String, String> {
     } else {
         let (oracle, ours, original) = (Oracle::default(), Side::on(fresh()), Side::on(fresh()));
         let (ticker, kind) = (Ticker::default(), Original::By01);
-        let mut bench = Bench { calls, oracle, ticker, kind, ticked: false, model: 0, ours, original };
+        let mut bench = Bench { calls, oracle, ticker, kind, apart: false, model: 0, ours, original };
         each_line(&text, |words| bench.line(words))?;
     }
     if !text.lines().any(|line| line.starts_with("expect ")) {
@@ -111,6 +117,7 @@ impl Bench<'_> {
             ["original", "as", "it", "stands"] => self.original_is(Original::AsItStands),
             ["original", "by", "01"] => self.original_is(Original::By01),
             ["original", "by", "01", "with", "its", "own", "tick"] => self.original_is(Original::OwnTick),
+            ["original", "by", "01", "without", "read-back"] => self.original_is(Original::NoReadBack),
             ["tick"] => self.tick(1),
             ["tick", number] => self.tick(number.parse().map_err(|_| format!("not a number: {number}"))?),
             ["model", name] => {
@@ -136,7 +143,8 @@ impl Bench<'_> {
     }
 
     fn start_fresh(&mut self) -> Result<(), String> {
-        let reply = self.calls.call(Frame::fresh(&[0; 29], 29));
+        self.apart = false;
+        let reply = self.calls.call(Frame::fresh(&[0; RECORD_BYTES], RECORD_BYTES as u8));
         self.ours = Side::on(reply.record());
         self.original = Side::on(if self.kind == Original::AsItStands { stands::fresh(model(self.model)) } else { fresh() });
         self.agree()
@@ -149,7 +157,8 @@ impl Bench<'_> {
             let field = Field::named(name).ok_or(format!("not a field: {name}"))?;
             field.put(&mut record, field.parse(value).ok_or(format!("not a value of {name}: {value}"))?);
         }
-        (self.ours, self.original) = (Side::on(record), Side::on(record));
+        self.apart = false;
+        (self.ours, self.original) = (Side::on(record), Side::on(bare(&record)));
         Ok(())
     }
 
@@ -160,6 +169,7 @@ impl Bench<'_> {
             return Err(format!("ours refuses with {}", reply.status()));
         }
         self.ours = Side { record: reply.record(), answer: numbers(&reply.answer()), seen: String::new() };
+        self.apart |= self.kind == Original::NoReadBack && self.model == 1 && op.code == 16 && op.number >= CHANNEL_3;
 
         let (start, ptype) = (self.original.record, model(self.model));
         let seen = stands::calls_of(&start, op).iter().map(|call| format!("{call:?}")).collect::<Vec<_>>().join(" ");
@@ -190,16 +200,14 @@ impl Bench<'_> {
                 None => self.original = Side::on(tick.after),
             }
         }
-        self.ticked = true;
+        self.apart = true;
         Ok(())
     }
 
-    /// On document 01's channel the two sides never differ before a tick: the row is then a difference from a sheet.
+    /// On document 01's channel the two sides do not differ before a tick or a read-back, in all that the original has: the row is then a difference from a sheet.
     fn agree(&self) -> Result<(), String> {
-        if self.kind != Original::AsItStands
-            && !self.ticked
-            && (self.ours.record, self.ours.answer) != (self.original.record, self.original.answer)
-        {
+        let same = |ours: &Side, original: &Side| (bare(&ours.record), ours.answer) == (original.record, original.answer);
+        if self.kind != Original::AsItStands && !self.apart && !same(&self.ours, &self.original) {
             return Err("ours and the original differ".to_string());
         }
         Ok(())

@@ -12,6 +12,8 @@ pub const MODES: &[u32] = &[0, 1, 2, 3, 4, 5];
 pub const STATES: &[u32] = &[0, 1, 2, 3, 4, 5, 6];
 const MASKS: &[u32] = &[0xFFFF, 0xFFFE, 0, 0x0F0F, 0x8001];
 const LATCHES: &[u32] = &[0, 1, 0xFF, 0x100, 0xFF00, 0x1234, 0xA55A, 0xFFFF];
+/// No status held, the lowest byte that is one, one that a channel can have, and one that none can.
+pub const STATUSES: &[u32] = &[0, 1, 0xB6, 0xCF];
 
 /// A record whose numbers are all different, so that one stored in another's place shows.
 fn telling() -> Record {
@@ -23,10 +25,19 @@ fn telling() -> Record {
     record
 }
 
+/// The same with a status held and the null-count mark set: what must leave them shows.
+fn held() -> Record {
+    let mut record = telling();
+    STATUS_LATCH.put(&mut record, 0x5B);
+    NULL_COUNT.put(&mut record, 1);
+    record
+}
+
 pub fn run(judge: &mut Judge) {
     counts(judge);
     writes(judge);
     controls(judge);
+    read_backs(judge);
     gates(judge);
     reads(judge);
     loads(judge);
@@ -41,7 +52,7 @@ fn counts(judge: &mut Judge) {
         judge.ask(record, operation(4, 0, 0));
     });
     each_combination(
-        &telling(),
+        &held(),
         &[(STATE, STATES), (MODE, MODES), (TICKED, FLAG), (GATE, FLAG), (OUTPUT, FLAG), (BCD, FLAG)],
         &mut |record| {
             judge.ask(record, operation(4, 0, 0));
@@ -72,7 +83,16 @@ fn writes(judge: &mut Judge) {
             judge.ask(record, operation(1, byte, 0));
         });
     });
-    let flags: &[(&Field, &[u32])] = &[(ARMED, FLAG), (DIRTY, FLAG), (LATCHED, FLAG), (READ_STATE, FLAG), (GATE, FLAG), (TICKED, FLAG)];
+    let flags: &[(&Field, &[u32])] = &[
+        (ARMED, FLAG),
+        (DIRTY, FLAG),
+        (LATCHED, FLAG),
+        (READ_STATE, FLAG),
+        (GATE, FLAG),
+        (TICKED, FLAG),
+        (NULL_COUNT, FLAG),
+        (STATUS_LATCH, &[0, 0x5B]),
+    ];
     each_combination(&telling(), &[&chosen[..4], flags].concat(), &mut |record| {
         judge.ask(record, operation(1, 0x81, 0));
         judge.ask(record, operation(1, 0x81, 1));
@@ -104,6 +124,33 @@ fn controls(judge: &mut Judge) {
     }
 }
 
+/// Every control byte on both models, and from each what two reads then give: over all that a status byte shows, and over count latched or not, status held or not, word half read or not, mark
+/// set or not, in every access.
+fn read_backs(judge: &mut Judge) {
+    let mut records = Vec::new();
+    let shown: &[(&Field, &[u32])] = &[(MODE, MODES), (ACCESS, ACCESSES), (BCD, FLAG), (OUTPUT, FLAG), (NULL_COUNT, FLAG)];
+    each_combination(&telling(), shown, &mut |record| records.push(*record));
+    let kept: &[(&Field, &[u32])] = &[
+        (LATCHED, FLAG),
+        (STATUS_LATCH, STATUSES),
+        (READ_STATE, FLAG),
+        (NULL_COUNT, FLAG),
+        (DIRTY, FLAG),
+        (ACCESS, ACCESSES),
+        (LATCH, &[0x9ABC, 0xDEF1]),
+    ];
+    each_combination(&telling(), kept, &mut |record| records.push(*record));
+    for record in &records {
+        for (byte, model) in (0..=255).flat_map(|byte| [(byte, 0), (byte, 1)]) {
+            let after = judge.ask(record, operation(16, byte, model));
+            if byte >= 0xC0 {
+                let next = judge.ask(&after, operation(2, 0, 0));
+                judge.ask(&next, operation(2, 0, 0));
+            }
+        }
+    }
+}
+
 /// Every edge, and every level that stands, in every mode and state.
 fn gates(judge: &mut Judge) {
     let chosen: &[(&Field, &[u32])] = &[
@@ -117,13 +164,13 @@ fn gates(judge: &mut Judge) {
         (ARMED, FLAG),
         (LATCHED, FLAG),
     ];
-    each_combination(&telling(), chosen, &mut |record| {
+    each_combination(&held(), chosen, &mut |record| {
         judge.ask(record, operation(3, 0, 0));
         judge.ask(record, operation(3, 1, 0));
     });
 }
 
-/// Every place of a read in every access, latched and not, and the three reads that follow.
+/// Every place of a read in every access, latched and not, with a status held and without, and the three reads that follow; and every byte that can be held as a status.
 fn reads(judge: &mut Judge) {
     let chosen: &[(&Field, &[u32])] = &[
         (READ_STATE, FLAG),
@@ -135,12 +182,16 @@ fn reads(judge: &mut Judge) {
         (DIRTY, FLAG),
         (BCD, FLAG),
     ];
-    each_combination(&telling(), chosen, &mut |record| {
-        let mut record = *record;
-        for _ in 0..4 {
-            record = judge.ask(&record, operation(2, 0, 0));
-        }
-    });
+    let bytes: Vec<u32> = (0..=255).collect();
+    let statuses: &[(&Field, &[u32])] = &[(STATUS_LATCH, &bytes), (NULL_COUNT, FLAG)];
+    for chosen in [[chosen, &[(STATUS_LATCH, &[0, 0x5B])]].concat(), [&chosen[..3], statuses].concat()] {
+        each_combination(&telling(), &chosen, &mut |record| {
+            let mut record = *record;
+            for _ in 0..4 {
+                record = judge.ask(&record, operation(2, 0, 0));
+            }
+        });
+    }
 }
 
 /// A load cycle from every state, in every mode, with several masks, and the one that follows.
@@ -155,6 +206,7 @@ fn loads(judge: &mut Judge) {
         (OUTPUT, FLAG),
         (OUTPUT_ON_RELOAD, FLAG),
         (GATE, FLAG),
+        (NULL_COUNT, FLAG),
     ];
     each_combination(&telling(), chosen, &mut |record| {
         let next = judge.ask(record, operation(5, 0, 0));
@@ -166,7 +218,7 @@ fn loads(judge: &mut Judge) {
 fn queries(judge: &mut Judge) {
     let chosen: &[(&Field, &[u32])] =
         &[(MODE, MODES), (STATE, STATES), (DIRTY, FLAG), (TICKED, FLAG), (OUTPUT, FLAG), (GATE, FLAG), (ACCESS, ACCESSES), (ARMED, FLAG)];
-    each_combination(&telling(), chosen, &mut |record| {
+    each_combination(&held(), chosen, &mut |record| {
         for code in QUERIES {
             judge.ask(record, operation(code, 0, 0));
         }

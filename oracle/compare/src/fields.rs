@@ -35,8 +35,10 @@ pub const READ_STATE: &Field = &FIELDS[17];
 pub const GATE: &Field = &FIELDS[18];
 pub const OUTPUT: &Field = &FIELDS[19];
 pub const DIRTY: &Field = &FIELDS[20];
+pub const STATUS_LATCH: &Field = &FIELDS[21];
+pub const NULL_COUNT: &Field = &FIELDS[22];
 
-pub const FIELDS: [Field; 21] = [
+pub const FIELDS: [Field; 23] = [
     field("mode", 0, 1, 5),
     field("rw_mode", 1, 1, 2),
     field("bcd_mode", 2, 1, 1),
@@ -58,6 +60,8 @@ pub const FIELDS: [Field; 21] = [
     field("gate", 26, 1, 1),
     field("output", 27, 1, 1),
     field("dirty", 28, 1, 1),
+    field("status_latch", 29, 1, 255),
+    field("null_count", 30, 1, 1),
 ];
 
 const STATES: [&str; 7] = [
@@ -71,6 +75,11 @@ const STATES: [&str; 7] = [
 ];
 
 impl Field {
+    /// Whether some byte is above the limit.
+    pub fn limited(&self) -> bool {
+        self.width == 1 && self.limit < 255
+    }
+
     pub fn named(name: &str) -> Option<&'static Field> {
         FIELDS.iter().find(|field| field.name == name)
     }
@@ -86,11 +95,12 @@ impl Field {
         record[self.place..self.place + self.width].copy_from_slice(&value.to_le_bytes()[..self.width]);
     }
 
-    /// A value as it is written: a state by its name, a 16-bit number in hex, all others in decimal.
+    /// A value as it is written: a state by its name, a 16-bit number and a status in hex, all others in decimal.
     pub fn show(&self, value: u32) -> String {
         match (self.name, self.width) {
             ("channel_state", _) => STATES.get(value as usize).map_or(value.to_string(), |name| name.to_string()),
             (_, 2) => format!("0x{value:04X}"),
+            ("status_latch", _) => format!("0x{value:02X}"),
             _ => value.to_string(),
         }
     }

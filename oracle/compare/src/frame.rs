@@ -7,10 +7,11 @@
 use crate::linked;
 use crate::ours::Call;
 use original::pit::operation::Operation;
-use original::pit::record::Record;
+use original::pit::record::{Record, RECORD_BYTES};
 
 const FRAME: usize = 80;
 const RECORD: usize = 8;
+const PAST_RECORD: usize = RECORD + RECORD_BYTES;
 const ANSWER: usize = 56;
 
 /// The bytes that can be lent for a record and for an answer.
@@ -52,9 +53,9 @@ impl Frame {
         let sum = record.iter().fold(u32::from(op.code), |sum, byte| sum.wrapping_mul(31).wrapping_add(u32::from(*byte)));
         let filler = (sum >> 8) as u8;
         let mut bytes = [filler; FRAME];
-        let lent = [29 + (sum % 20) as u8, 7 + (sum / 20 % 18) as u8];
+        let lent = [RECORD_BYTES as u8 + (sum % 18) as u8, 7 + (sum / 18 % 18) as u8];
         bytes[..7].copy_from_slice(&[1, lent[0], lent[1], op.code, op.number, op.setting, filler]);
-        bytes[RECORD..RECORD + 29].copy_from_slice(record);
+        bytes[RECORD..PAST_RECORD].copy_from_slice(record);
         Frame(bytes)
     }
 
@@ -73,7 +74,7 @@ impl Frame {
     }
 
     pub fn record(&self) -> Record {
-        self.0[RECORD..RECORD + 29].try_into().expect("29 bytes")
+        self.0[RECORD..PAST_RECORD].try_into().expect("a record's bytes")
     }
 
     pub fn answer(&self) -> [u8; 7] {
@@ -82,6 +83,6 @@ impl Frame {
 
     pub fn rest_untouched(&self) -> bool {
         let filler = self.0[6];
-        self.0[RECORD + 29..ANSWER].iter().chain(&self.0[ANSWER + 7..]).all(|byte| *byte == filler)
+        self.0[PAST_RECORD..ANSWER].iter().chain(&self.0[ANSWER + 7..]).all(|byte| *byte == filler)
     }
 }

@@ -1,6 +1,6 @@
 //! A sample of the original's answers, for tests that have no Rust at hand. Ours is not asked when it is made; `replay` asks ours for each case.
 //!
-//! A case is 68 bytes: the record before (29), the operation's code, number and setting (3), the record after (29), the answer (7). Cases
+//! A case is 72 bytes: the record before (31), the operation's code, number and setting (3), the record after (31), the answer (7). Cases
 //! follow one another with nothing between. The seed is fixed, so the same text of the original gives the same bytes.
 
 use crate::exhaustive::{ACCESSES, FLAG, MODES, STATES};
@@ -9,11 +9,16 @@ use crate::frame::Frame;
 use crate::operations::{operation, NAMES};
 use crate::ours::Ours;
 use crate::random::Random;
+use crate::read_back;
 use original::pit::operation::{Operation, Oracle};
-use original::pit::record::Record;
+use original::pit::record::{Record, RECORD_BYTES};
 
 const CASES: usize = 3000;
-const CASE: usize = 68;
+/// Places in a case.
+const CODE: usize = RECORD_BYTES;
+const AFTER: usize = CODE + 3;
+const ANSWER: usize = AFTER + RECORD_BYTES;
+const CASE: usize = ANSWER + 7;
 const SEED: u64 = 8254;
 
 /// Starts at which a decimal count borrows from one digit, two or three, or from a digit above 9, and some beside them.
@@ -28,7 +33,7 @@ impl Sample {
     /// One case for each combination and operation, each on a random record of its own.
     fn add(&mut self, chosen: &[(&Field, &[u32])], operations: &[Operation]) {
         let mut combinations = Vec::new();
-        each_combination(&[0; 29], chosen, &mut |record| combinations.push(*record));
+        each_combination(&[0; RECORD_BYTES], chosen, &mut |record| combinations.push(*record));
         for combination in combinations {
             for op in operations {
                 let mut record = self.random.record();
@@ -48,7 +53,13 @@ fn sample() -> Vec<(Record, Operation)> {
         &[(MODE, MODES), (ACCESS, ACCESSES), (LOAD_STATE, FLAG), (LOAD_TYPE, FLAG), (RELOAD_ON_TRIGGER, FLAG)],
         &[operation(1, 0x00, 1), operation(1, 0xC5, 0)],
     );
-    sample.add(&[(READ_STATE, FLAG), (ACCESS, ACCESSES), (LATCHED, FLAG)], &[operation(2, 0, 0); 4]);
+    sample.add(&[(READ_STATE, FLAG), (ACCESS, ACCESSES), (LATCHED, FLAG), (STATUS_LATCH, &[0, 0x96])], &[operation(2, 0, 0); 2]);
+    // Read-backs of count and status, of either and of neither, with bit 0 set, with no channel named, and on the 8253.
+    let read_backs = [(0xC2, 1), (0xD4, 1), (0xE8, 1), (0xFE, 1), (0xC3, 1), (0xC0, 1), (0xC2, 0)];
+    sample.add(
+        &[(LATCHED, FLAG), (STATUS_LATCH, &[0, 0xB6]), (READ_STATE, FLAG), (NULL_COUNT, FLAG)],
+        &read_backs.map(|(byte, model)| operation(16, byte, model)),
+    );
     sample.add(&[(ELEMENT, BORROWS), (BCD, FLAG), (LATCHED, FLAG)], &[operation(4, 0, 0)]);
     sample.add(&[(STATE, STATES), (MASK, &[0xFFFF, 0xFFFE, 0x0FF0]), (LATCHED, FLAG), (DIRTY, FLAG)], &[operation(5, 0, 0)]);
     // A load that is due in every mode (3 is `WaitingForLoadCycle`), with the masks that mode 3 leaves and one that only a record has.
@@ -67,7 +78,7 @@ pub fn answered() -> Result<Vec<u8>, String> {
     let mut oracle = Oracle::default();
     let mut bytes = Vec::new();
     for (record, op) in sample() {
-        let outcome = oracle.operation(&record, op);
+        let outcome = read_back::on_channel(&mut oracle, &record, op);
         if let Some(fault) = outcome.fault {
             return Err(fault.to_string());
         }
@@ -88,9 +99,10 @@ pub fn replay(path: &str) -> Result<u64, String> {
     let mut ours = Ours::start()?;
     let mut differ = 0;
     for case in bytes.chunks(CASE) {
-        let start: Record = case[..29].try_into().expect("29 bytes");
-        let reply = ours.call(Frame::operation(&start, operation(case[29], case[30], case[31])).lending(29, 7));
-        if reply.status() != 0 || reply.record() != case[32..61] || reply.answer() != case[61..] || !reply.rest_untouched() {
+        let start: Record = case[..CODE].try_into().expect("a record's bytes");
+        let reply =
+            ours.call(Frame::operation(&start, operation(case[CODE], case[CODE + 1], case[CODE + 2])).lending(RECORD_BYTES as u8, 7));
+        if reply.status() != 0 || reply.record() != case[AFTER..ANSWER] || reply.answer() != case[ANSWER..] || !reply.rest_untouched() {
             differ += 1;
         }
     }

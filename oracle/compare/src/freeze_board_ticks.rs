@@ -5,8 +5,9 @@ use crate::exhaustive::{FLAG, MODES, STATES};
 use crate::fields::{each_combination, ARMED, ELEMENT, MODE, STATE};
 use crate::freeze_boards::{Sample, MOST_COUNTS};
 use crate::reference::WORK_OFF;
-use original::pit::board::{put_number, OWED};
+use original::pit::board::{put_number, record_at, OWED};
 use original::pit::board_operation::BoardOperation;
+use original::pit::record::RECORD_BYTES;
 
 impl Sample {
     /// Boards that owe ticks: what waits for them, what does not, and working them off with every room.
@@ -35,7 +36,7 @@ impl Sample {
     /// A tick or two in every mode and state, from elements at which an output changes, armed and not.
     pub fn ticks(&mut self) -> Result<(), String> {
         let mut combinations = Vec::new();
-        each_combination(&[0; 29], &[(STATE, STATES), (MODE, MODES), (ELEMENT, &[1, 2]), (ARMED, FLAG)], &mut |record| {
+        each_combination(&[0; RECORD_BYTES], &[(STATE, STATES), (MODE, MODES), (ELEMENT, &[1, 2]), (ARMED, FLAG)], &mut |record| {
             combinations.push(*record);
         });
         for (turn, combination) in combinations.iter().enumerate() {
@@ -43,10 +44,10 @@ impl Sample {
             put_number(&mut board, OWED, 2);
             for c in 0..3 {
                 for field in [STATE, MODE, ELEMENT, ARMED] {
-                    field.put(&mut board[29 * c..], field.get(combination));
+                    field.put(&mut board[record_at(c)..], field.get(combination));
                 }
                 // Of the three the modes are others, so that no output hides another's.
-                MODE.put(&mut board[29 * c..], (MODE.get(combination) + 2 * c as u32) % 6);
+                MODE.put(&mut board[record_at(c)..], (MODE.get(combination) + 2 * c as u32) % 6);
             }
             let events = self.random.events_of(8);
             self.add(&board, events, operation(WORK_OFF, 0, 1 + turn as u32 % 2))?;

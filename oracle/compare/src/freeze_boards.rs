@@ -1,19 +1,20 @@
 //! A sample of the original's answers on boards, for tests that have no Rust at hand; freeze.rs has that of channels. Ours is not asked when it is made.
 //!
-//! A case is 259 bytes: the board before (105), how many event bytes are lent (1), eight bytes of which they are the first and the rest 0, the event place (8),
-//! the operation's code (1), target (2) and number (4), the status (1), the board after (105), the eight bytes after (8), and the answer (16), which
+//! A case is 271 bytes: the board before (111), how many event bytes are lent (1), eight bytes of which they are the first and the rest 0, the event place (8),
+//! the operation's code (1), target (2) and number (4), the status (1), the board after (111), the eight bytes after (8), and the answer (16), which
 //! holds 0xA5 where the status is not 0: what the caller put there.
 
 use crate::board_fields::BoardField;
 use crate::board_frame::BoardFrame;
 use crate::board_operations::{operation, NAMES};
 use crate::exhaustive::{ACCESSES, FLAG};
-use crate::fields::{each_combination, ACCESS, LATCHED, READ_STATE};
+use crate::fields::{each_combination, ACCESS, LATCHED, READ_STATE, STATUS_LATCH};
 use crate::ours::Ours;
 use crate::random::Random;
 use crate::reference::{Reference, WORK_OFF};
-use original::pit::board::{fresh, number_at, put_number, Board, DIVISOR, LENGTH, OWED, REMAINDER, WARP};
+use original::pit::board::{fresh, number_at, put_number, record_at, Board, DIVISOR, LENGTH, MODEL, OWED, REMAINDER, WARP};
 use original::pit::board_operation::{BoardOperation, Events};
+use original::pit::record::RECORD_BYTES;
 
 /// Places in a case.
 const LENT: usize = LENGTH;
@@ -74,7 +75,8 @@ impl Sample {
     }
 
     fn any_operation(&mut self, board: &Board, events: &Events) -> BoardOperation {
-        let mut op = self.random.board_operation(board, events);
+        let op = self.random.board_operation(board, events);
+        let mut op = self.random.often_for_channel_3(op);
         let many = op.code == 4 || number_at(board, OWED) > MOST_COUNTS;
         if many && matches!(op.code, 4 | WORK_OFF) && op.number <= MAY_BE_ASKED {
             op.number = op.number.min(MOST_COUNTS);
@@ -183,20 +185,62 @@ impl Sample {
         Ok(())
     }
 
-    /// Every access, place of a read and latch on each data port, and the command port beside every three latches.
+    /// On both models: a control byte for channel 3 with each way to ask, beside what is held and what is not, refused and made, and a read of each data port.
+    fn read_backs(&mut self) -> Result<(), String> {
+        for (model, byte) in [(1, 0xCE), (1, 0xC2), (1, 0xDA), (1, 0xEC), (1, 0xFE), (1, 0xCF), (1, 0xC0), (0, 0xCE)] {
+            let mut board = self.random.board();
+            board[MODEL] = model;
+            // Channel 0 holds nothing, 1 a count, 2 a status.
+            for c in 0..3 {
+                LATCHED.put(&mut board[record_at(c)..], (c == 1).into());
+                STATUS_LATCH.put(&mut board[record_at(c)..], if c == 2 { 0xB6 } else { 0 });
+            }
+            // Refused with 16 while ticks are owed, with 7 past the event bytes, and else made in one byte of room.
+            let mut owing = board;
+            put_number(&mut owing, OWED, 1);
+            self.add(&owing, Events::zeros(1), operation(1, 0x43, byte))?;
+            self.add(&board, Events::zeros(1), BoardOperation { place: 2, ..operation(1, 0x43, byte) })?;
+            board = self.add(&board, Events::zeros(1), operation(1, 0x43, byte))?;
+            for port in 0x40..=0x42 {
+                board = self.add(&board, Events::zeros(0), operation(2, port, 0))?;
+            }
+        }
+        Ok(())
+    }
+
+    /// A firmware on both models that polls: a count in mode 0, ticks, and after each the status; then status and count together.
+    fn polling(&mut self) -> Result<(), String> {
+        let begun =
+            [operation(1, 0x43, 0x30), operation(1, 0x40, 3), operation(1, 0x43, 0xE2), operation(2, 0x40, 0), operation(1, 0x40, 0)];
+        let poll = [operation(1, 0x43, 0xE2), operation(2, 0x40, 0), operation(7, 0, 12), operation(WORK_OFF, 0, 1)];
+        let both = [operation(1, 0x43, 0xC2), operation(2, 0x40, 0), operation(2, 0x40, 0), operation(2, 0x40, 0)];
+        for (model, polls) in [(1, 5), (0, 1)] {
+            let mut board = fresh(model, 12);
+            for op in begun.iter().chain(&poll.repeat(polls)).chain(&both) {
+                board = self.add(&board, Events::zeros(6), *op)?;
+            }
+        }
+        Ok(())
+    }
+
+    /// Every access, place of a read and latch on each data port, with a status held and without, and the command port beside every three latches.
     fn reads(&mut self) -> Result<(), String> {
         let mut places = Vec::new();
-        each_combination(&[0; 29], &[(ACCESS, ACCESSES), (READ_STATE, FLAG), (LATCHED, FLAG)], &mut |record| places.push(*record));
+        each_combination(
+            &[0; RECORD_BYTES],
+            &[(ACCESS, ACCESSES), (READ_STATE, FLAG), (LATCHED, FLAG), (STATUS_LATCH, &[0, 0x96])],
+            &mut |record| places.push(*record),
+        );
         for (c, place) in (0..3).flat_map(|c| places.iter().map(move |place| (c, place))) {
             let mut board = self.random.board();
-            for field in [ACCESS, READ_STATE, LATCHED] {
-                field.put(&mut board[29 * c..], field.get(place));
+            for field in [ACCESS, READ_STATE, LATCHED, STATUS_LATCH] {
+                field.put(&mut board[record_at(c)..], field.get(place));
             }
             self.add(&board, Events::zeros(0), operation(2, 0x40 + c as u16, 0))?;
         }
         for latches in 0..8 {
             let mut board = self.random.board();
-            (0..3).for_each(|c| LATCHED.put(&mut board[29 * c..], latches >> c & 1));
+            (0..3).for_each(|c| LATCHED.put(&mut board[record_at(c)..], latches >> c & 1));
             self.add(&board, Events::zeros(0), operation(2, 0x43, 0))?;
         }
         Ok(())
@@ -224,6 +268,8 @@ pub fn answered() -> Result<Vec<u8>, String> {
     sample.ticks()?;
     sample.customer()?;
     sample.reads()?;
+    sample.read_backs()?;
+    sample.polling()?;
     sample.rest()?;
     Ok(sample.bytes)
 }

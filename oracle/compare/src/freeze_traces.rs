@@ -7,7 +7,7 @@ use crate::reference::Reference;
 use crate::trace_exhaustive::{program, ticking_program};
 use crate::trace_frame::TraceFrame;
 use crate::trace_judge::{case_r, LINE_ROOM};
-use crate::trace_random::trace_of;
+use crate::trace_random::{as_it_is, trace_of};
 use crate::trace_reader::{Operation, MOST_OPERATIONS};
 use crate::trace_replay::replay as replay_on_the_original;
 
@@ -57,12 +57,12 @@ fn traces() -> Vec<Vec<u8>> {
     }
     for turn in 0..SOUND {
         let number = if turn == 0 { 330 } else { random.below(40) };
-        traces.push(random.sound_trace(&mut reference, number));
+        traces.push(random.sound_trace(&mut reference, number, as_it_is));
     }
     let mut left = REFUSALS.map(|_| REFUSED);
     while left.iter().any(|number| *number > 0) {
         let number = random.below(12);
-        let mut trace = random.sound_trace(&mut reference, number);
+        let mut trace = random.sound_trace(&mut reference, number, as_it_is);
         random.damage(&mut trace);
         let Err((number, _)) = replay_on_the_original(&mut reference, &trace).answers else { continue };
         let place = REFUSALS.iter().position(|known| *known == number).expect("a refusal of a trace");
@@ -72,7 +72,7 @@ fn traces() -> Vec<Vec<u8>> {
         }
     }
     assert!(traces.iter().all(|trace| trace.len() <= MOST_BYTES), "a trace that a gate program has no room for");
-    traces.push(random.sound_trace(&mut reference, MOST_OPERATIONS.into()));
+    traces.push(random.sound_trace(&mut reference, MOST_OPERATIONS.into(), as_it_is));
     traces
 }
 

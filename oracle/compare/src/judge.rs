@@ -5,6 +5,7 @@ use crate::fields::{differing, FIELDS, OUTPUT};
 use crate::frame::Frame;
 use crate::operations;
 use crate::ours::{Call, Ours};
+use crate::read_back;
 use crate::words_off::Pairs;
 use original::pit::operation::{fresh, Operation, Oracle, Outcome};
 use original::pit::record::Record;
@@ -32,6 +33,8 @@ pub struct Judge<'a> {
     pub fresh: u64,
     /// How often the reads said which words.
     pub pairs: Pairs,
+    /// Control bytes that ask for a count or a status of a channel.
+    pub read_backs: u64,
     pub differ: u64,
     /// Differences other than of an operation that both sides make.
     said: u64,
@@ -43,7 +46,7 @@ impl<'a> Judge<'a> {
     pub fn new(ours: &'a mut Ours) -> Self {
         let (waiting, frames) = (Vec::with_capacity(MOST), Vec::with_capacity(MOST));
         let (oracle, compared, pairs) = (Oracle::default(), [0; operations::NAMES.len()], Pairs::default());
-        Self { oracle, ours, waiting, frames, compared, refused: 0, fresh: 0, pairs, differ: 0, said: 0, seen: compared }
+        Self { oracle, ours, waiting, frames, compared, refused: 0, fresh: 0, pairs, read_backs: 0, differ: 0, said: 0, seen: compared }
     }
 
     pub fn total(&self) -> u64 {
@@ -52,7 +55,7 @@ impl<'a> Judge<'a> {
 
     /// Asks both sides for one operation and hands back the original's record after it.
     pub fn ask(&mut self, start: &Record, op: Operation) -> Record {
-        let outcome = self.oracle.operation(start, op);
+        let outcome = read_back::on_channel(&mut self.oracle, start, op);
         self.waiting.push(Waiting { start: *start, op, outcome });
         self.frames.push(Frame::operation(start, op));
         self.compared[operations::place(op.code).expect("a code of the table")] += 1;
@@ -60,6 +63,7 @@ impl<'a> Judge<'a> {
             let [_, _, _, half, _, held, _] = outcome.answer;
             self.pairs.add(half, held);
         }
+        self.read_backs += u64::from(op.code == 16 && read_back::asks(op.number, op.setting));
         if self.frames.len() == MOST {
             self.settle();
         }
@@ -86,7 +90,7 @@ impl<'a> Judge<'a> {
     }
 
     fn both(&mut self, start: &Record, op: Operation) -> (Waiting, Frame) {
-        let outcome = self.oracle.operation(start, op);
+        let outcome = read_back::on_channel(&mut self.oracle, start, op);
         (Waiting { start: *start, op, outcome }, self.ours.call(Frame::operation(start, op)))
     }
 
@@ -114,8 +118,8 @@ impl<'a> Judge<'a> {
             println!("  ours:  status {}", reply.status());
         } else {
             println!("  ours:         {}", differing(&reply.record(), &asked.outcome.record));
-            println!("  the original: {}", differing(&asked.outcome.record, &reply.record()));
-            println!("  answers: ours {:02X?}, the original's {:02X?}", reply.answer(), asked.outcome.answer);
+            println!("  due:          {}", differing(&asked.outcome.record, &reply.record()));
+            println!("  answers: ours {:02X?}, due {:02X?}", reply.answer(), asked.outcome.answer);
         }
     }
 

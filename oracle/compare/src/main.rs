@@ -23,6 +23,7 @@ mod linked;
 mod operations;
 mod ours;
 mod random;
+mod read_back;
 mod reference;
 mod refusals;
 mod samples;

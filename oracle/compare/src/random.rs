@@ -1,10 +1,10 @@
 //! Records of any content, and chains of operations from each.
 
-use crate::fields::{Field, FIELDS};
+use crate::fields::{Field, FIELDS, STATUS_LATCH};
 use crate::judge::Judge;
 use crate::operations::{operation, NAMES};
 use original::pit::operation::Operation;
-use original::pit::record::Record;
+use original::pit::record::{Record, RECORD_BYTES};
 
 /// Numbers at which something changes; one number in four is one of these.
 const EDGES: [u32; 12] = [0, 1, 0xF, 0x10, 0xFF, 0x100, 0xF00, 0x1000, 0x9999, 0xA0A0, 0xFFFE, 0xFFFF];
@@ -36,9 +36,12 @@ impl Random {
         self.next() % bound
     }
 
+    /// Any value of a field; of a status latch every second is 0, with which none is held.
     fn value(&mut self, field: &Field) -> u32 {
         let any = self.next();
-        if field.width == 1 {
+        if field.place == STATUS_LATCH.place && any >> 63 == 0 {
+            0
+        } else if field.width == 1 {
             (any % u64::from(field.limit + 1)) as u32
         } else if any >> 62 == 0 {
             EDGES[(any % 12) as usize]
@@ -49,7 +52,7 @@ impl Random {
 
     /// A record in which every field has any of its values, also such as no calls lead to.
     pub fn record(&mut self) -> Record {
-        let mut record = [0; 29];
+        let mut record = [0; RECORD_BYTES];
         for field in &FIELDS {
             let value = self.value(field);
             field.put(&mut record, value);
@@ -57,10 +60,12 @@ impl Random {
         record
     }
 
+    /// Of the control bytes more than every third is for channel 3.
     pub fn operation(&mut self) -> Operation {
         let any = self.next();
         let (number, setting) = ((any >> 16) as u8, (any >> 24) as u8 & 1);
         match NAMES[(any % NAMES.len() as u64) as usize].0 {
+            16 if any >> 62 == 0 => operation(16, number | 0xC0, setting),
             code @ (1 | 16) => operation(code, number, setting),
             3 => operation(3, number & 1, 0),
             code => operation(code, 0, 0),

@@ -1,5 +1,7 @@
-//! What is due of an operation on a board: the original's answer; refusal 16 while ticks are owed, and working them off, by docs/TICK.md alone, since the original owes none.
+//! What is due of an operation on a board: the original's answer, with what read_back.rs puts over it; refusal 16 while ticks are owed, and working them off, by docs/TICK.md alone,
+//! since the original owes none.
 
+use crate::read_back;
 use crate::tick_board::worked_off;
 use original::pit::board::{number_at, Board, DIVISOR, OWED};
 use original::pit::board_operation::{BoardOperation, BoardOracle, BoardOutcome, Events};
@@ -19,7 +21,7 @@ impl Reference {
         } else if must_wait(start, op) {
             BoardOutcome { status: TICKS_OWED, board: *start, events: *events, numbers: (0, 0, 0), fault: None }
         } else {
-            self.oracle.operation(start, events, op)
+            read_back::on_board(&mut self.oracle, start, events, op)
         }
     }
 }

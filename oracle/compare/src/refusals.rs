@@ -7,12 +7,14 @@ use crate::judge::Judge;
 use crate::operations::{allowed, operation, place, show, NAMES};
 use crate::random::Random;
 use original::pit::operation::fresh;
-use original::pit::record::Record;
+use original::pit::record::{Record, RECORD_BYTES};
 
 const SHORT_RECORD: u32 = 101;
 const UNREADABLE: u32 = 102;
 const BAD_OPERATION: u32 = 103;
 const SHORT_ANSWER: u32 = 104;
+/// Bytes of a record, as a length that is lent.
+const WHOLE: u8 = RECORD_BYTES as u8;
 
 pub fn run(judge: &mut Judge) {
     fresh_channels(judge);
@@ -38,13 +40,13 @@ fn fresh_channels(judge: &mut Judge) {
     for len in 0..=RECORD_ROOM {
         let record: Record = std::array::from_fn(|_| random.next() as u8);
         let frame = Frame::fresh(&record, len);
-        if len < 29 {
+        if len < WHOLE {
             refused(judge, frame, SHORT_RECORD, &format!("fresh, {len} bytes of record"));
             continue;
         }
         let reply = judge.ours.call(frame);
         judge.fresh += 1;
-        if reply.status() != 0 || reply.record() != fresh() || reply.lent()[29..] != frame.lent()[29..] {
+        if reply.status() != 0 || reply.record() != fresh() || reply.lent()[RECORD_BYTES..] != frame.lent()[RECORD_BYTES..] {
             judge.wrong(&format!("fresh, {len} bytes of record: not document 01's fresh channel"));
         }
     }
@@ -61,7 +63,7 @@ fn lengths(judge: &mut Judge) {
             let whole = judge.ours.call(frame.lending(RECORD_ROOM, ANSWER_ROOM));
             let lending = frame.lending(record_len, answer_len);
             let what = format!("{}, {record_len} bytes of record, {answer_len} of answer", show(op));
-            match (record_len < 29, answer_len < 7) {
+            match (record_len < WHOLE, answer_len < 7) {
                 (true, _) => refused(judge, lending, SHORT_RECORD, &what),
                 (false, true) => refused(judge, lending, SHORT_ANSWER, &what),
                 (false, false) => {
@@ -80,7 +82,7 @@ fn lengths(judge: &mut Judge) {
 /// Every value above the limit, in every limited place.
 fn unreadable_bytes(judge: &mut Judge) {
     let mut random = Random(3);
-    for field in FIELDS.iter().filter(|field| field.width == 1) {
+    for field in FIELDS.iter().filter(|field| field.limited()) {
         for value in field.limit + 1..=255 {
             let mut record = random.record();
             field.put(&mut record, value);
@@ -111,7 +113,7 @@ fn bad_operations(judge: &mut Judge) {
 /// Of several reasons to refuse, the first in the table is given: with every code, and an unreadable byte at any place.
 fn order(judge: &mut Judge) {
     let mut random = Random(5);
-    let limited: Vec<_> = FIELDS.iter().filter(|field| field.width == 1).collect();
+    let limited: Vec<_> = FIELDS.iter().filter(|field| field.limited()).collect();
     for (code, reasons) in (0..=255).flat_map(|code| (1..16u32).map(move |reasons| (code, reasons))) {
         let mut op = operation(code, 0, 0);
         if allowed(op) && reasons & 4 != 0 {
@@ -122,8 +124,8 @@ fn order(judge: &mut Judge) {
             let field = limited[random.below(limited.len() as u64) as usize];
             field.put(&mut record, 255 - random.below(u64::from(255 - field.limit)) as u32);
         }
-        let (record_len, answer_len) = (random.below(29) as u8, random.below(7) as u8);
-        let lent = (if reasons & 1 != 0 { record_len } else { 29 }, if reasons & 8 != 0 { answer_len } else { 7 });
+        let (record_len, answer_len) = (random.below(WHOLE.into()) as u8, random.below(7) as u8);
+        let lent = (if reasons & 1 != 0 { record_len } else { WHOLE }, if reasons & 8 != 0 { answer_len } else { 7 });
         let frame = Frame::operation(&record, op).lending(lent.0, lent.1);
         if let Some(status) = due(reasons, allowed(op)) {
             refused(judge, frame, status, &format!("{}, reasons {reasons:04b}", show(op)));

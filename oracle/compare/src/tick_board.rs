@@ -2,7 +2,7 @@
 
 use crate::tick_channel::Channel;
 use crate::tick_rules::Departures;
-use original::pit::board::{number_at, put_number, Board, MODEL, OWED};
+use original::pit::board::{number_at, put_number, record_at, Board, MODEL, OWED};
 use original::pit::board_operation::{BoardOperation, BoardOutcome, Events};
 
 /// "15 (stated above 65,536)"
@@ -14,7 +14,7 @@ struct Three([Channel; 3]);
 
 impl Three {
     fn of(board: &Board) -> Self {
-        Three([0, 1, 2].map(|c| Channel::load(&board[29 * c..], board[MODEL])))
+        Three([0, 1, 2].map(|c| Channel::load(&board[record_at(c)..], board[MODEL])))
     }
 
     /// "A board tick makes one tick of channel 0, 1, 2 and has an event, in that order, for each channel whose output level after differs from before: at most three."
@@ -31,7 +31,7 @@ impl Three {
     }
 
     fn put_into(&self, board: &mut Board) {
-        self.0.iter().enumerate().for_each(|(c, channel)| channel.store(&mut board[29 * c..]));
+        self.0.iter().enumerate().for_each(|(c, channel)| channel.store(&mut board[record_at(c)..]));
     }
 }
 

@@ -44,6 +44,7 @@ pub struct Channel {
     pub gate: bool,
     pub output: bool,
     pub dirty: bool,
+    pub null_count: bool,
 }
 
 impl Channel {
@@ -68,10 +69,11 @@ impl Channel {
             gate: flag(GATE),
             output: flag(OUTPUT),
             dirty: flag(DIRTY),
+            null_count: flag(NULL_COUNT),
         }
     }
 
-    /// "It changes at most state, cycles in state, element, output latch, output, armed, dirty, ticked." R3 adds `output_on_reload`.
+    /// "It changes at most state, cycles in state, element, output latch, output, armed, dirty, ticked." R3 adds `output_on_reload`, L5 the null-count mark.
     pub fn store(&self, record: &mut [u8]) {
         OUTPUT_ON_RELOAD.put(record, self.output_on_reload.into());
         ARMED.put(record, self.armed.into());
@@ -82,6 +84,7 @@ impl Channel {
         LATCH.put(record, self.latch.into());
         OUTPUT.put(record, self.output.into());
         DIRTY.put(record, self.dirty.into());
+        NULL_COUNT.put(record, self.null_count.into());
     }
 
     /// "*Triggered* modes: 1 and 5".

@@ -3,7 +3,7 @@
 use crate::exhaustive::{FLAG, MODES, STATES};
 use crate::fields::*;
 use crate::random::Random;
-use original::pit::record::Record;
+use original::pit::record::{Record, RECORD_BYTES};
 
 const RELOADS: &[u32] = &[0, 1, 2, 3];
 const ELEMENTS: &[u32] = &[0, 1, 2, 3, 4, 0x10];
@@ -23,7 +23,7 @@ pub fn each_choice(with: &mut dyn FnMut(&Record, u8)) {
         (RELOAD, RELOADS),
         (CYCLES, &[0, 1, u32::MAX]),
     ];
-    each_combination(&[0; 29], chosen, &mut |combination| {
+    each_combination(&[0; RECORD_BYTES], chosen, &mut |combination| {
         let mut record = random.ticking_record();
         chosen.iter().for_each(|(field, _)| field.put(&mut record, field.get(combination)));
         with(&record, random.below(2) as u8);
@@ -35,7 +35,7 @@ pub fn each_element(with: &mut dyn FnMut(&Record, u8)) {
     let mut random = Random(72);
     let elements: Vec<u32> = (0..=0xFFFF).collect();
     let chosen: &[(&Field, &[u32])] = &[(ELEMENT, &elements), (MODE, MODES), (BCD, FLAG), (OUTPUT, FLAG)];
-    each_combination(&[0; 29], chosen, &mut |combination| {
+    each_combination(&[0; RECORD_BYTES], chosen, &mut |combination| {
         let mut record = random.ticking_record();
         for (field, value) in [(STATE, 5), (GATE, 1)] {
             field.put(&mut record, value);

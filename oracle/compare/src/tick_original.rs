@@ -1,7 +1,9 @@
-//! The rules of docs/TICK.md with R1 to R13 put in, against the original's own ticks: on one channel, on a board, and through its `run`. So the list of rows is whole.
+//! The rules of docs/TICK.md with R1 to R13 put in, against the original's own ticks: on one channel, on a board, and through its `run`. So the list of rows is whole. The
+//! original has no null-count mark, so the records have none either.
 
 use crate::fields::{differing, FIELDS};
 use crate::random::Random;
+use crate::read_back::{bare, bare_board};
 use crate::tick_board::ticked_board;
 use crate::tick_exhaustive;
 use crate::tick_rules::{ticked, Departures, ROWS};
@@ -29,11 +31,11 @@ pub struct TickJudge {
 
 impl TickJudge {
     pub fn run(&mut self, records: u64, seed: u64) {
-        tick_exhaustive::each_choice(&mut |record, model| self.ask_rows(record, model));
-        tick_exhaustive::each_element(&mut |record, model| self.ask(record, model));
+        tick_exhaustive::each_choice(&mut |record, model| self.ask_rows(&bare(record), model));
+        tick_exhaustive::each_element(&mut |record, model| self.ask(&bare(record), model));
         let mut random = Random(seed ^ 0x71C4);
         for _ in 0..records {
-            self.ask_rows(&random.ticking_record(), random.below(2) as u8);
+            self.ask_rows(&bare(&random.ticking_record()), random.below(2) as u8);
         }
         for _ in 0..records / 8 {
             self.ask_board(&mut random);
@@ -72,7 +74,7 @@ impl TickJudge {
 
     /// A tick of the timer, and as many ticks as its `run` makes, from one board.
     fn ask_board(&mut self, random: &mut Random) {
-        let (board, ticks) = (random.ticking_board(), random.below(MOST_RUN) as u32);
+        let (board, ticks) = (bare_board(&random.ticking_board()), random.below(MOST_RUN) as u32);
         let tick = self.ticker.board(&board);
         self.board_ticks += 1;
         if tick.fault.is_some() || tick.after != ticked_board(&board, 1, &Departures::ALL) {

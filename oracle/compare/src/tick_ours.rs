@@ -9,7 +9,7 @@ use crate::ours::Ours;
 use crate::random::Random;
 use crate::reference::WORK_OFF;
 use crate::tick_exhaustive;
-use original::pit::board::{fresh, number_at, put_number, record_of, Board, MODEL, OWED};
+use original::pit::board::{fresh, number_at, put_number, put_record, record_at, record_of, Board, MODEL, OWED};
 use original::pit::board_operation::{BoardOperation, Events, EVENT_ROOM};
 use original::pit::record::Record;
 
@@ -52,7 +52,7 @@ pub fn run(judge: &mut BoardJudge, records: u64, seed: u64) {
 fn board_with(record: &Record, model: u8, c: usize) -> Board {
     let mut board = fresh(0, 12);
     board[MODEL] = model;
-    board[29 * c..29 * c + 29].copy_from_slice(record);
+    put_record(&mut board, c, record);
     board
 }
 
@@ -95,7 +95,7 @@ fn work_off(random: &mut Random) -> (Board, Events, BoardOperation) {
 fn to_the_mark(random: &mut Random, most: u64) -> (Board, Events, BoardOperation) {
     let mut board = random.ticking_board();
     for c in 0..3 {
-        let (record, element) = (&mut board[29 * c..], random.below(most) as u32);
+        let (record, element) = (&mut board[record_at(c)..], random.below(most) as u32);
         let chosen = [
             (STATE, if random.one_in(8) { random.below(7) as u32 } else { 5 }),
             (GATE, 1),
@@ -104,7 +104,7 @@ fn to_the_mark(random: &mut Random, most: u64) -> (Board, Events, BoardOperation
         ];
         chosen.iter().for_each(|(field, value)| field.put(record, *value));
     }
-    let record = &board[29 * random.below(3) as usize..];
+    let record = &board[record_at(random.below(3) as usize)..];
     let marks = to_zero(ELEMENT.get(record), BCD.get(record) == 1) / (1 + random.below(2) as u32);
     let ticks = (marks + random.below(6) as u32).saturating_sub(3);
     put_number(&mut board, OWED, ticks + random.below(2) as u32 * random.owed() % 100);

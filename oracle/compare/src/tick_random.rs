@@ -2,7 +2,7 @@
 
 use crate::fields::*;
 use crate::random::Random;
-use original::pit::board::{Board, MODEL};
+use original::pit::board::{put_record, Board, MODEL};
 use original::pit::record::Record;
 
 /// Elements and counts: small ones, those beside a borrow, and the ends.
@@ -30,7 +30,7 @@ impl Random {
     pub fn ticking_board(&mut self) -> Board {
         let mut board = self.board();
         for c in 0..3 {
-            board[29 * c..29 * c + 29].copy_from_slice(&self.ticking_record());
+            put_record(&mut board, c, &self.ticking_record());
         }
         board[MODEL] = self.below(2) as u8;
         board

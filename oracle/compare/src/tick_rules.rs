@@ -133,7 +133,7 @@ impl Channel {
     }
 
     /// "the element becomes the load value .., the output latch too unless latched, the output takes the level, the channel is armed". R1: "a load by a tick does not
-    /// reach the output latch"; R9: "armed is not touched".
+    /// reach the output latch"; R9: "armed is not touched". L5: the null-count mark is "cleared when a load cycle moves the value", and a tick that loads does.
     fn take(&mut self, level: bool, rows: &Departures) {
         self.element = self.load_value(rows);
         if !rows.has(1) {
@@ -141,6 +141,7 @@ impl Channel {
         }
         self.output = level;
         self.armed |= !rows.has(9);
+        self.null_count = false;
     }
 
     /// Table C. R8: "mode 3 takes odd or even from the count register, a half-written one too; the 8254 always takes 2".

@@ -1,5 +1,5 @@
 //! What follows a load, against ours: docs/TICK.md, "What follows, j ticks after the tick that loaded N". A channel is set up by port writes and a trigger, as a host does it, time
-//! passes by runs, and their ticks are worked off; output and counting element are then the table's, for every N at which something could change. Each is followed from a fresh
+//! passes by runs, and their ticks are worked off; output and counting element are then the table's, for every N at which something could change, and null count is cleared by the tick that loads. Each is followed from a fresh
 //! board, and on a channel that was in mode 3 before, whose mask stays in the record. No model of a tick takes part.
 
 use crate::board_fields::BoardField;
@@ -103,8 +103,14 @@ impl Waves {
         self.followed += 1;
         let c = random.below(3) as u32;
         let mut board = begun(ours, wave, c as u16);
+        let waits = is_null(&board, c);
         // "The load comes with the first tick after the write .. or the trigger".
         board = passed(ours, board, 1);
+        // RB3: null count is 1 "after a count is written .., and 0 once that count has been loaded".
+        if !waits || is_null(&board, c) {
+            self.differ += 1;
+            println!("difference: {wave:?} on channel {c}: null count is not 1 before the tick that loads and 0 after it");
+        }
         let mut j = 0;
         while j <= 2 * wave.n + 3 {
             let is = shown(&board, c);
@@ -146,6 +152,10 @@ fn passed(ours: &mut Ours, board: Board, ticks: u32) -> Board {
         board = made(ours, &board, operation(WORK_OFF, 0, ticks));
     }
     board
+}
+
+fn is_null(board: &Board, c: u32) -> bool {
+    BoardField::named(&format!("null_count:{c}")).expect("a field").get(board) == 1
 }
 
 fn shown(board: &Board, c: u32) -> (bool, u32) {

@@ -19,8 +19,10 @@ pub fn run(judge: &mut TraceJudge) {
     single_operations(judge, &mut random);
     heads(judge, &mut random);
     reads(judge, &mut random);
+    read_backs(judge, &mut random);
     programs(judge, &mut random);
     ticking_programs(judge, &mut random);
+    polling_programs(judge, &mut random);
 }
 
 fn single_operations(judge: &mut TraceJudge, random: &mut Random) {
@@ -59,6 +61,31 @@ fn reads(judge: &mut TraceJudge, random: &mut Random) {
             operations.extend([operation(5, c, 0), operation(4, c, 1)]);
             operations.extend((0..5).map(|turn| steps[(order / 3u32.pow(turn) % 3) as usize]));
             judge.ask(&trace_of(order & 1, 12, &operations), random);
+        }
+    }
+}
+
+/// On every channel in every access on both models a count whose halves differ, and then four steps, each a latch, a read-back of the count, of the status or of both, a read or a count, in
+/// every order; with three reads behind them.
+fn read_backs(judge: &mut TraceJudge, random: &mut Random) {
+    let kinds = (0..3u8).flat_map(|c| (1..4u32).flat_map(move |access| [(c, access, 0), (c, access, 1)]));
+    for (c, access, model) in kinds {
+        let (port, control) = (0x40 + c, |byte: u32| operation(1, 0x43, byte));
+        let begun = [control(u32::from(c) << 6 | access << 4), operation(1, port, 0x5A), operation(1, port, 0xC3), operation(5, c, 0)];
+        let named = 2 << c;
+        let steps = [
+            control(u32::from(c) << 6),
+            control(0xD0 | named),
+            control(0xE0 | named),
+            control(0xC0 | named),
+            operation(2, port, 0),
+            operation(4, c, 1),
+        ];
+        for order in 0..6u32.pow(4) {
+            let mut operations = begun.to_vec();
+            operations.extend((0..4).map(|turn| steps[(order / 6u32.pow(turn) % 6) as usize]));
+            operations.extend([operation(2, port, 0); 3]);
+            judge.ask(&trace_of(model, 12, &operations), random);
         }
     }
 }
@@ -142,6 +169,48 @@ pub fn ticking_program(modes: u32, random: &mut Random) -> Vec<Operation> {
         if random.one_in(3) {
             operations.push(operation(1, 0x40 + c, 1 + random.below(7) as u32));
         }
+    }
+    operations
+}
+
+/// In every three modes, on both models.
+fn polling_programs(judge: &mut TraceJudge, random: &mut Random) {
+    for (modes, model) in (0..6 * 6 * 6).flat_map(|modes| [(modes, 0), (modes, 1), (modes, 1)]) {
+        judge.ask(&trace_of(model, 12, &polling_program(modes, random)), random);
+    }
+}
+
+/// Three channels, whose status is polled after the mode sets, after each byte of a small count, and after each tick of some; in between a new count, a gate that falls and rises, and load cycles.
+fn polling_program(modes: u32, random: &mut Random) -> Vec<Operation> {
+    let (status, all) = (operation(1, 0x43, 0xEE), [operation(2, 0x40, 0), operation(2, 0x41, 0), operation(2, 0x42, 0)]);
+    let poll = |operations: &mut Vec<Operation>| {
+        operations.push(status);
+        operations.extend(all);
+    };
+    let mut operations = Vec::new();
+    for c in 0..3 {
+        operations.push(operation(1, 0x43, c << 6 | 0x30 | modes / 6u32.pow(c) % 6 << 1 | u32::from(random.one_in(8))));
+    }
+    poll(&mut operations);
+    for turn in 0..2 {
+        for high in 0..2 {
+            for port in 0x40..=0x42 {
+                let low = 1 + random.below(5) as u32;
+                operations.push(operation(1, port, if high == 1 { 0 } else { low }));
+            }
+            poll(&mut operations);
+        }
+        let c = random.below(3) as u8;
+        operations.extend([operation(3, c, turn), operation(3, c, 1 - turn), operation(5, random.below(3) as u8, 0)]);
+        poll(&mut operations);
+        for _ in 0..6 {
+            operations.extend([operation(7, 0, 12), operation(WORK_OFF, 0, 1)]);
+            poll(&mut operations);
+        }
+        // The counts too, all three at once, and the status of some.
+        operations.push(operation(1, 0x43, 0xC0 | random.below(32) as u32));
+        operations.extend(all);
+        operations.extend(all);
     }
     operations
 }

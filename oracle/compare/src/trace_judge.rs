@@ -4,7 +4,7 @@ use crate::ours::Ours;
 use crate::random::Random;
 use crate::reference::Reference;
 use crate::trace_frame::TraceFrame;
-use crate::trace_random::trace_of;
+use crate::trace_random::{often_for_channel_3, trace_of};
 use crate::trace_reader::{Operation, MOST_OPERATIONS};
 use crate::trace_replay::{replay, Replayed};
 use crate::words_off::{self, is_bare_read, Pairs, HALF, HELD};
@@ -234,12 +234,12 @@ pub fn run(judge: &mut TraceJudge, traces: u64, seed: u64) {
     judge.every_length(&case_r);
     judge.every_length(&case_r[..40]);
     for number in [u64::from(MOST_OPERATIONS), u64::from(MOST_OPERATIONS) + 1] {
-        let trace = random.sound_trace(&mut judge.reference, number);
+        let trace = random.sound_trace(&mut judge.reference, number, often_for_channel_3);
         judge.ask(&trace, &mut random);
     }
     for turn in 0..traces {
         let length = random.trace_length();
-        let mut trace = random.sound_trace(&mut judge.reference, length);
+        let mut trace = random.sound_trace(&mut judge.reference, length, often_for_channel_3);
         for _ in 0..turn % 3 {
             random.damage(&mut trace);
         }

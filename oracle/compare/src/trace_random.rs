@@ -46,6 +46,22 @@ fn focused(operation: Operation, channel: u8) -> Operation {
     }
 }
 
+/// What becomes of an operation of a trace that is about a channel; 3 stands for all.
+pub type Change = fn(&mut Random, Operation, u8) -> Operation;
+
+/// Nothing.
+pub fn as_it_is(_: &mut Random, operation: Operation, _: u8) -> Operation {
+    operation
+}
+
+/// Every third control byte is for channel 3, and then names the channel.
+pub fn often_for_channel_3(random: &mut Random, operation: Operation, channel: u8) -> Operation {
+    match (operation.code, operation.target) {
+        (1, 0x43) if random.one_in(3) => Operation { number: operation.number | 0xC0 | 2 << channel & 0xE, ..operation },
+        _ => operation,
+    }
+}
+
 impl Random {
     /// An operation for a trace that stands at this board.
     fn trace_operation(&mut self, board: &Board) -> Operation {
@@ -58,14 +74,15 @@ impl Random {
         }
     }
 
-    /// A sound trace with so many operations, made while it runs on the original, so that its times are about the board's.
-    pub fn sound_trace(&mut self, reference: &mut Reference, number: u64) -> Vec<u8> {
+    /// A sound trace with so many operations, made while it runs on the original, so that its times are about the board's. `change` may put others in their places.
+    pub fn sound_trace(&mut self, reference: &mut Reference, number: u64, change: Change) -> Vec<u8> {
         let mut board = self.fresh_board();
         let (model, divisor) = (board[board::MODEL], board::number_at(&board, board::DIVISOR));
         let focus = self.below(4) as u8;
         let mut operations = Vec::new();
         for _ in 0..number {
             let operation = focused(self.trace_operation(&board), focus);
+            let operation = change(self, operation, focus);
             board = reference.operation(&board, &lent(operation.code), on_a_board(operation)).board;
             operations.push(operation);
         }

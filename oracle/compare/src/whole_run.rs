@@ -48,6 +48,7 @@ fn channels(ours: &mut Ours, operations: u64, seed: u64) -> Compared {
         println!("{name}: {compared}");
     }
     println!("words of the reads: {}", judge.pairs.show());
+    println!("of the control bytes read-backs that ask for something: {}", judge.read_backs);
     println!("refused by ours: {}", judge.refused);
     println!("pit_channel_fresh: {}", judge.fresh);
     println!("channels: {} operations, {} differ ({:.1} s)", judge.total(), judge.differ, started.elapsed().as_secs_f64());
@@ -96,6 +97,7 @@ fn boards(ours: &mut Ours, operations: u64, seed: u64) -> Compared {
     println!("of these refused with {}", refusals.join(", "));
     println!("of these with an event: {}; ticks worked off: {}", judge.events, judge.ticks);
     println!("words of the reads: {}", judge.pairs.show());
+    println!("of the port writes read-backs that ask for something: {}", judge.read_backs);
     let oracle = &judge.reference.oracle;
     println!("of the time calls judged by document 01 alone (divisor 0, or a quotient above 2,000,000): {}", oracle.alone);
     println!("of the time calls with a quotient above 3,000, so without the original's catch_up and run: {}", oracle.not_ticked);

@@ -1,24 +1,30 @@
-//! The original's timer as the 105 bytes of docs/ENCODING.md, in both directions.
+//! The original's timer as the 111 bytes of docs/ENCODING.md, in both directions.
 //!
 //! A load gives the board's model to the timer and to its three channels. What document 01 leaves behind (`pit_cycles`, `chan1_source`, the
 //! speaker, the fraction of the microsecond branch) stays as it is in the timer and is in no dump. The original owes no ticks: what a dump has there is the caller's.
+//! Of the status latches and null-count marks of the three records it has 0, as record.rs has.
 
 use super::operation::model;
-use super::record::{self, Record};
+use super::record::{self, Record, RECORD_BYTES};
 use super::*;
 
 /// Bytes of a board.
-pub const LENGTH: usize = 105;
+pub const LENGTH: usize = 111;
 
 pub type Board = [u8; LENGTH];
 
 /// The places of what the board itself holds, behind its three records.
-pub const MODEL: usize = 87;
-pub const DIVISOR: usize = 88;
-pub const REMAINDER: usize = 92;
-pub const WARP: usize = 96;
-pub const DEFER: usize = 100;
-pub const OWED: usize = 101;
+pub const MODEL: usize = 93;
+pub const DIVISOR: usize = 94;
+pub const REMAINDER: usize = 98;
+pub const WARP: usize = 102;
+pub const DEFER: usize = 106;
+pub const OWED: usize = 107;
+
+/// Where a channel's record begins.
+pub const fn record_at(c: usize) -> usize {
+    RECORD_BYTES * c
+}
 
 pub fn load(board: &Board, timer: &mut ProgrammableIntervalTimer) {
     timer.ptype = model(board[MODEL]);
@@ -39,7 +45,7 @@ pub(super) fn load_time(board: &Board, timer: &mut ProgrammableIntervalTimer) {
 pub fn dump(timer: &ProgrammableIntervalTimer, owed: u32) -> Board {
     let mut board = [0; LENGTH];
     for c in 0..3 {
-        board[29 * c..29 * c + 29].copy_from_slice(&record::dump(&timer.channels[c]));
+        put_record(&mut board, c, &record::dump(&timer.channels[c]));
     }
     board[MODEL] = (timer.ptype == PitType::Model8254).into();
     put_number(&mut board, DIVISOR, timer.clock_divisor);
@@ -63,11 +69,11 @@ pub(super) fn in_place(timer: &ProgrammableIntervalTimer) -> bool {
     timer.channels.len() == 3 && timer.channels.iter().enumerate().all(|(c, channel)| channel.c == c && channel.ptype == timer.ptype)
 }
 
-/// The fresh board by document 01: "A fresh board has remainder and warp 0 and defer flag false." It owes no ticks.
+/// The fresh board by document 01: "A fresh board has remainder and warp 0 and defer flag false." It owes no ticks. 02, L5: "a fresh channel has neither" status nor mark.
 pub fn fresh(model_number: u8, divisor: u32) -> Board {
     let mut board = [0; LENGTH];
     for c in 0..3 {
-        board[29 * c..29 * c + 29].copy_from_slice(&record::dump(&added::fresh(c, model(model_number))));
+        put_record(&mut board, c, &record::dump(&added::fresh(c, model(model_number))));
     }
     board[MODEL] = model_number;
     put_number(&mut board, DIVISOR, divisor);
@@ -75,7 +81,11 @@ pub fn fresh(model_number: u8, divisor: u32) -> Board {
 }
 
 pub fn record_of(board: &Board, c: usize) -> Record {
-    board[29 * c..29 * c + 29].try_into().expect("29 bytes")
+    board[record_at(c)..record_at(c + 1)].try_into().expect("a record's bytes")
+}
+
+pub fn put_record(board: &mut Board, c: usize, record: &Record) {
+    board[record_at(c)..record_at(c + 1)].copy_from_slice(record);
 }
 
 pub fn number_at(board: &Board, place: usize) -> u32 {

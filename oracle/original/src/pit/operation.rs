@@ -44,6 +44,22 @@ pub fn model(setting: u8) -> PitType {
     }
 }
 
+/// The level and the three numbers as the bytes of an answer.
+pub fn answer_of(level: u8, numbers: [u16; 3]) -> Answer {
+    let mut answer = [level, 0, 0, 0, 0, 0, 0];
+    for (place, number) in numbers.iter().enumerate() {
+        answer[1 + 2 * place..3 + 2 * place].copy_from_slice(&number.to_le_bytes());
+    }
+    answer
+}
+
+/// The record after the original's own `latch_count`.
+pub fn latched(start: &Record) -> Record {
+    let mut channel = load(start, 0, PitType::Model8254);
+    channel.latch_count();
+    dump(&channel)
+}
+
 /// The fresh channel by document 01.
 pub fn fresh() -> Record {
     dump(&added::fresh(0, PitType::Model8253))
@@ -69,11 +85,7 @@ impl Oracle {
 
     /// A channel's record and an answer with its level.
     pub(super) fn outcome(&self, c: usize, numbers: [u16; 3]) -> Outcome {
-        let mut answer = [0; 7];
-        answer[0] = self.timer.get_output_state(c).into();
-        for (place, number) in numbers.iter().enumerate() {
-            answer[1 + 2 * place..3 + 2 * place].copy_from_slice(&number.to_le_bytes());
-        }
+        let answer = answer_of(self.timer.get_output_state(c).into(), numbers);
         Outcome { record: dump(&self.timer.channels[c]), answer, fault: None }
     }
 

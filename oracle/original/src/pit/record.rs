@@ -1,11 +1,18 @@
-//! A channel of the original as the 29 bytes of docs/ENCODING.md, in both directions.
+//! A channel of the original as the 31 bytes of docs/ENCODING.md, in both directions.
+//!
+//! The last two, the status latch and the null-count mark, are request L5's: the original has neither. A load does not look at them, and a dump has 0 there; whoever
+//! asks keeps them beside the original's record (compare/src/read_back.rs).
 //!
 //! The fields that document 01 leaves behind (`clocks`, `ce_undefined`, `incomplete_reload`, `defer_reload_flag`) are as in the original's default
 //! after a load, and are in no dump. `c` and `ptype` are the caller's.
 
 use super::*;
 
-pub type Record = [u8; 29];
+/// Bytes of a record, and where those end that the original has.
+pub const RECORD_BYTES: usize = 31;
+pub const OF_THE_ORIGINAL: usize = 29;
+
+pub type Record = [u8; RECORD_BYTES];
 
 pub fn load(record: &Record, c: usize, ptype: PitType) -> Channel {
     let flag = |place: usize| record[place] == 1;
@@ -42,7 +49,7 @@ pub fn load(record: &Record, c: usize, ptype: PitType) -> Channel {
 }
 
 pub fn dump(channel: &Channel) -> Record {
-    let mut record = [0; 29];
+    let mut record = [0; RECORD_BYTES];
     record[0] = number_of(MODES, &channel.mode);
     record[1] = number_of(ACCESSES, &channel.rw_mode);
     record[2] = channel.bcd_mode.into();

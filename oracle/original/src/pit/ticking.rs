@@ -82,7 +82,7 @@ impl Ticker {
     fn left(&self, start: &Board) -> Board {
         let mut after = *start;
         for c in 0..3 {
-            after[29 * c..29 * c + 29].copy_from_slice(&dump(&self.timer.channels[c]));
+            board::put_record(&mut after, c, &dump(&self.timer.channels[c]));
         }
         after
     }
