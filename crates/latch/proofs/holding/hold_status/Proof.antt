@@ -6,10 +6,10 @@ use Rattle.latch.proofs.holding.hold_status.Statement.{statement}
 use Rattle.latch.proofs.holding.hold_status.Tie as tie
 
 returns : tie.Need-returns
-returns c = rw (c .before .before .before .before .if1 .taken) (rw (eq-eqb _ _ (c .before .before .if2 .taken)) (simp (c .before .status-byte .ensures)))
+returns c = simp (c .before .before .before .before .if1 .taken, eq-eqb _ _ (c .before .before .if2 .taken), c .before .status-byte .ensures)
 
 returns-2 : tie.Need-returns-2
-returns-2 c = rw (c .before .before .if1 .taken) (rw (ne-eqb _ _ (c .if2 .left)) refl)
+returns-2 c = simp (c .before .before .if1 .taken, ne-eqb _ _ (c .if2 .left))
 
 returns-3 : tie.Need-returns-3
 returns-3 c = rw (c .if1 .left) refl
