@@ -7,6 +7,7 @@ use native.Mathlib.Nat.{mod-eq-of-lt}
 use native.Mathlib.Omega.{arith}
 use lib.Dec.{eqb, ltb}
 use borrow.Author.Tests.{eq-eqb, ne-eqb, eqb-true, eqb-false, ltb-true, ltb-false}
+use Rattle.numbers.proofs.Digits.{both-true}
 use Rattle.channel.specs.declared.Channel.{Channel}
 use Rattle.channel.specs.declared.ChannelMode.{ChannelMode}
 use Rattle.channel.specs.declared.ChannelMode.the-variants.{InterruptOnTerminalCount, HardwareRetriggerableOneShot, RateGenerator, SquareWaveGenerator, SoftwareTriggeredStrobe, HardwareTriggeredStrobe}
@@ -55,10 +56,6 @@ repeats-named = every-mode (λ (m : ChannelMode). (eqb (modeNumber m) 2 || eqb (
 never-alike : (c : Channel) → c .load .«load_type» ≡ SubsequentLoad
     → ((eqb (modeNumber (c .control .mode)) 2 || eqb (modeNumber (c .control .mode)) 3) && isOne (lastOf (c .load .«load_type») (c .load .«reload_value»))) ≡ neverLoaded c
 never-alike c complete = rw (complete, repeats-named (c .control .mode)) refl
-
-both-true : (a b : Bool) → (a && b) ≡ true → (a ≡ true) × (b ≡ true)
-both-true true b is = (refl, is)
-both-true false b is = absurd (false≢true is)
 
 never-reloads : (n j : ℕ) (m : ChannelMode) → countsDown m ≡ true → reloads (modeNumber m) n j ≡ false
 never-reloads n j = every-down (λ (m : ChannelMode). reloads (modeNumber m) n j ≡ false) refl refl refl refl

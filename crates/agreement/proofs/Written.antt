@@ -1,14 +1,14 @@
 -- N1 to N3: the count that 16 bits write, as the counter holds it. Assumes nothing.
 use Prim.Native.Nat.{ℕ, _<_, _≤_}
-use mathlib.Core.Bool.{Bool, true, false, true≢false, cond, _&&_}
+use mathlib.Core.Bool.{Bool, true, false, true≢false, cond}
 use mathlib.Core.Path.{_≡_, refl, sym, ap, _∙_, subst}
 use native.Mathlib.Nat.{mod-eq-of-lt}
 use native.Mathlib.Omega.{arith}
 use lib.Dec.{eqb, ltb}
 use borrow.Author.Tests.{ltb-true, ltb-false, eqb-true, eqb-false}
-use Rattle.numbers.specs.Digits.{GoodDigits, ones, tens, hundreds, thousands, weight, packed}
+use Rattle.numbers.specs.Digits.{GoodDigits, weight, packed}
 use Rattle.numbers.specs.Radix.{radixCounts}
-use Rattle.numbers.proofs.Digits.{packed-weight, weight-below}
+use Rattle.numbers.proofs.Digits.{tested-good, packed-weight, weight-below}
 use Rattle.sheet.specs.Ticking.{held, smallest}
 use Rattle.sheet.specs.Counter.{Fixed, leftOpen, fixedAt}
 use Rattle.sheet.specs.CounterTick.{decimalDigits, orLargest, numberWritten, legal}
@@ -33,23 +33,6 @@ open-not e = true≢false (ap is-open e)
     is-open leftOpen = true
     is-open (fixedAt z) = false
 
-both : (x y : Bool) → (x && y) ≡ true → (x ≡ true) × (y ≡ true)
-both true true h = (refl, refl)
-both true false h = absurd (true≢false (sym h))
-both false y h = absurd (true≢false (sym h))
-
-good : (w : ℕ) → decimalDigits w ≡ true → GoodDigits w
-good w h =
-    let a = both _ (ltb (thousands w) 10) h in
-    let b = both _ (ltb (hundreds w) 10) (a .0) in
-    let c = both (ltb (ones w) 10) (ltb (tens w) 10) (b .0) in
-    record {
-      ones-good = ltb-true _ _ (c .0);
-      tens-good = ltb-true _ _ (c .1);
-      hundreds-good = ltb-true _ _ (b .1);
-      thousands-good = ltb-true _ _ (a .1);
-    }
-
 binary-writes : (w : ℕ) → w < 65536 → (z : Bool) → eqb w 0 ≡ z → Writes false w (cond z 65536 w)
 binary-writes w h true e = let q : w ≡ 0 = eqb-true w 0 e in record { holds = omega arith; from-one = omega arith; at-most = omega arith }
 binary-writes w h false e = let q : w ≡ 0 → ⊥ = eqb-false w 0 e in record { holds = sym (mod-eq-of-lt h); from-one = omega arith; at-most = omega arith }
@@ -66,7 +49,7 @@ decimal-writes w h good false e =
 decimal-number : (w n : ℕ) → w < 65536 → (digits : Bool) → decimalDigits w ≡ digits
     → cond digits (fixedAt (orLargest 10000 (weight w))) leftOpen ≡ fixedAt n → Writes true w n
 decimal-number w n h true digits e =
-    subst (Writes true w) (fixed-is e) (decimal-writes w h (good w digits) (eqb (weight w) 0) refl)
+    subst (Writes true w) (fixed-is e) (decimal-writes w h (tested-good w digits) (eqb (weight w) 0) refl)
 decimal-number w n h false digits e = absurd (open-not e)
 
 pub number-writes : (bcd : Bool) (w n : ℕ) → w < 65536 → numberWritten bcd w ≡ fixedAt n → Writes bcd w n

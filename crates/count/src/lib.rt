@@ -1,10 +1,14 @@
 // Counts: the counting element goes down by one in its radix, once or a number of times.
+mod at_once;
 mod digits;
+mod lending;
+
+mod table;
 
 use channel::Channel;
 use channel::Latch;
 pub use digits::decimal_step;
-use digits::decimal_steps;
+use at_once::decimal_steps;
 ghost use mathlib.Core.Path.{_≡_};
 ghost use Rattle.count.specs.Step.{stepIn};
 ghost use Rattle.numbers.specs.Times.{times};

@@ -1,9 +1,12 @@
 -- Four digits in one number. `pack` and the four digits undo each other; `packed` and `weight` undo each other too, between the numbers below
 -- 10,000 and the packed numbers with digits 0 to 9. Assumes nothing.
 use Prim.Native.Nat.{ℕ, _+_, _*_, _/_, _%_, _<_}
-use mathlib.Core.Path.{_≡_, _∙_}
+use mathlib.Core.Bool.{Bool, true, false, false≢true, _&&_}
+use mathlib.Core.Path.{_≡_, refl, _∙_}
 use native.Mathlib.Omega.{arith}
-use Rattle.numbers.specs.Digits.{ones, tens, hundreds, thousands, pack, GoodDigits, weight, packed}
+use lib.Dec.{ltb}
+use borrow.Author.Tests.{ltb-true}
+use Rattle.numbers.specs.Digits.{ones, tens, hundreds, thousands, pack, GoodDigits, goodDigits, weight, packed}
 
 -- any four digits of four bits, 10 to 15 too
 module _ (a b c d : ℕ) (ha : a < 16) (hb : b < 16) (hc : c < 16) (hd : d < 16) where
@@ -25,6 +28,22 @@ module _ (a b c d : ℕ) (ha : a < 16) (hb : b < 16) (hc : c < 16) (hd : d < 16)
 
 pub whole : (e : ℕ) → e < 65536 → pack (thousands e) (hundreds e) (tens e) (ones e) ≡ e
 whole e h = omega arith
+
+pub both-true : (a b : Bool) → (a && b) ≡ true → (a ≡ true) × (b ≡ true)
+both-true true b is = (refl, is)
+both-true false b is = absurd (false≢true is)
+
+pub tested-good : (e : ℕ) → goodDigits e ≡ true → GoodDigits e
+tested-good e is =
+    let a = both-true _ (ltb (thousands e) 10) is in
+    let b = both-true _ (ltb (hundreds e) 10) (a .0) in
+    let c = both-true (ltb (ones e) 10) (ltb (tens e) 10) (b .0) in
+    record {
+      ones-good = ltb-true _ _ (c .0);
+      tens-good = ltb-true _ _ (c .1);
+      hundreds-good = ltb-true _ _ (b .1);
+      thousands-good = ltb-true _ _ (a .1);
+    }
 
 pub weight-below : (e : ℕ) → GoodDigits e → weight e < 10000
 unfolding weight

@@ -1,5 +1,7 @@
 -- Four digits of four bits in one 16-bit number, and the decimal number that they stand for (docs/SHEETS.md, N2: "four decades").
 use Prim.Native.Nat.{ℕ, _+_, _*_, _/_, _%_, _<_}
+use mathlib.Core.Bool.{Bool, _&&_}
+use lib.Dec.{ltb}
 
 abbrev pub ones : ℕ → ℕ
 ones e = e % 16
@@ -23,6 +25,10 @@ pub record GoodDigits (e : ℕ) : Type 0 where
   pub tens-good : tens e < 10
   pub hundreds-good : hundreds e < 10
   pub thousands-good : thousands e < 10
+
+-- .. as a test
+abbrev pub goodDigits : ℕ → Bool
+goodDigits e = ltb (ones e) 10 && ltb (tens e) 10 && ltb (hundreds e) 10 && ltb (thousands e) 10
 
 -- what the digits stand for, read as decimal: 1,000, 100, 10 and 1 times the four digits. Digits above 9 have their weight too
 unfoldable pub weight : ℕ → ℕ

@@ -1,12 +1,13 @@
 // Words on numbers that several crates share: specs/ has the definitions, proofs/ their laws. The functions are a flag's byte, and numbers
-// put together from a low and a high half, as their bytes or found in bytes (field.rt); the counts of a radix, and the weight of four
-// digits (radix.rt).
+// put together from a low and a high half, as their bytes or found in bytes (field.rt); the counts of a radix, and of four digits whether
+// they are decimal and what they weigh (radix.rt).
 mod field;
 mod radix;
 
 pub use field::four_bytes;
 pub use field::number_at;
 pub use field::two_bytes;
+pub use radix::good_digits;
 pub use radix::radix_counts;
 pub use radix::weight;
 ghost use mathlib.Core.Path.{_≡_};

@@ -1,6 +1,6 @@
-// How many counts a radix has, and the decimal number that four packed digits stand for.
+// How many counts a radix has; whether four packed digits are decimal ones, and the decimal number that they stand for.
 ghost use mathlib.Core.Path.{_≡_};
-ghost use Rattle.numbers.specs.Digits.{weight};
+ghost use Rattle.numbers.specs.Digits.{goodDigits, weight};
 ghost use Rattle.numbers.specs.Radix.{radixCounts};
 
 pub fn radix_counts(bcd: bool) -> u32
@@ -10,6 +10,21 @@ pub fn radix_counts(bcd: bool) -> u32
         return 10000;
     }
     65536
+}
+
+pub fn good_digits(element: u16) -> bool
+    ensures { λ r. ⌜ r ≡ goodDigits element ⌝ }
+{
+    if element % 16 > 9 {
+        return false;
+    }
+    if element / 16 % 16 > 9 {
+        return false;
+    }
+    if element / 16 / 16 % 16 > 9 {
+        return false;
+    }
+    element / 16 / 16 / 16 % 16 < 10
 }
 
 // Digits above 9 have their weight too.
