@@ -2,13 +2,12 @@
 mod at_once;
 mod digits;
 mod lending;
-
 mod table;
 
+use at_once::decimal_steps;
 use channel::Channel;
 use channel::Latch;
 pub use digits::decimal_step;
-use at_once::decimal_steps;
 ghost use mathlib.Core.Path.{_≡_};
 ghost use Rattle.count.specs.Step.{stepIn};
 ghost use Rattle.numbers.specs.Times.{times};

@@ -1,6 +1,10 @@
-// Runs one count from each of the 65,536 starts, in both radixes, latched and not, against document 01's own way, and prints how many of them
-// differ. Document 01 takes 1, 0x7, 0x67 or 0x667 from the number. The crate `count` goes digit by digit, and no code is shared.
+// Runs counts from each of the 65,536 starts, in both radixes, latched and not, and prints how many of them differ. One count goes against
+// document 01's own way, which takes 1, 0x7, 0x67 or 0x667 from the number; a few in one call against as many single ones; and many in one call
+// against what leap.rt makes of them. The crate `count` goes digit by digit and by its table, and no code is shared.
+mod leap;
+
 use channel::Channel;
+use leap::left_after;
 use libc::STDOUT_FILENO;
 
 // Stands in the output latch before the count, to be seen where the latch must not follow.
@@ -33,39 +37,86 @@ fn below(element: u16, bcd: bool) -> u16 {
     element - 1
 }
 
-fn counted(element: u16, bcd: bool, latched: bool) -> Channel {
+fn starting(element: u16, bcd: bool, latched: bool) -> Channel {
     let mut c = Channel::fresh();
     c.control.bcd_mode = bcd;
     c.counter.counting_element = element;
     c.latch.output_latch = OLD_LATCH;
     c.latch.count_is_latched = latched;
-    count::count(c)
+    c
 }
 
-// Whether a count from this start leaves anything else than it should: element, output latch or `ticked`.
-fn differs(start: u32, bcd: bool, latched: bool) -> bool {
-    let element = (start % 65536) as u16;
-    let c = counted(element, bcd, latched);
+// Whether a record that has counted is not as it should be: element, output latch, whether it is latched, or `ticked`.
+fn differs(c: Channel, element: u16, latch: u16, latched: bool, ticked: bool) -> bool {
     let k = c.counter;
     let l = c.latch;
-    let right = below(element, bcd);
-    if k.counting_element != right {
+    if k.counting_element != element {
         return true;
     }
-    if !k.ticked {
+    if l.output_latch != latch {
         return true;
     }
-    if latched {
-        return l.output_latch != OLD_LATCH;
+    if l.count_is_latched != latched {
+        return true;
     }
-    l.output_latch != right
+    k.ticked != ticked
 }
 
-fn differing(bcd: bool, latched: bool) -> u32 {
+fn one_differs(start: u16, bcd: bool, latched: bool) -> bool {
+    let c = count::count(starting(start, bcd, latched));
+    let right = below(start, bcd);
+    let latch = if latched { OLD_LATCH } else { right };
+    differs(c, right, latch, latched, true)
+}
+
+// A few in one call, none among them, and as many single counts.
+fn few_differ(start: u16, bcd: bool, latched: bool, number: u32) -> bool {
+    let c = count::counts(starting(start, bcd, latched), number);
+    let mut single = starting(start, bcd, latched);
+    let mut k: u32 = 0;
+    while k < number {
+        single = count::count(single);
+        k += 1;
+    }
+    let right = single.counter;
+    let l = single.latch;
+    differs(
+        c,
+        right.counting_element,
+        l.output_latch,
+        l.count_is_latched,
+        right.ticked,
+    )
+}
+
+fn many_differ(start: u16, bcd: bool, latched: bool, number: u32) -> bool {
+    let c = count::counts(starting(start, bcd, latched), number);
+    let right = left_after(start, bcd, number);
+    let latch = if latched { OLD_LATCH } else { right };
+    differs(c, right, latch, latched, true)
+}
+
+// What is asked of a start: one count, a few, many.
+enum Asked {
+    One,
+    Few(u32),
+    Many(u32),
+}
+
+fn asked_differs(asked: Asked, start: u32, bcd: bool, latched: bool) -> bool {
+    let element = (start % 65536) as u16;
+    match asked {
+        Asked::One => one_differs(element, bcd, latched),
+        Asked::Few(number) => few_differ(element, bcd, latched, number),
+        Asked::Many(number) => many_differ(element, bcd, latched, number),
+    }
+}
+
+fn differing(asked: Asked, bcd: bool, latched: bool) -> u32 {
     let mut wrong: u32 = 0;
     let mut start: u32 = 0;
     while start < 65536 {
-        if differs(start, bcd, latched) {
+        if asked_differs(asked, start, bcd, latched) {
             wrong += 1;
         }
         start += 1;
@@ -73,16 +124,57 @@ fn differing(bcd: bool, latched: bool) -> u32 {
     wrong
 }
 
-fn report(name: &[u8], bcd: bool, latched: bool) {
-    io::write_all(STDOUT_FILENO, name);
+fn report(asked: Asked, bcd: bool, latched: bool) {
+    if bcd {
+        io::write_all(STDOUT_FILENO, b"decimal");
+    } else {
+        io::write_all(STDOUT_FILENO, b"binary");
+    }
+    if latched {
+        io::write_all(STDOUT_FILENO, b", latched");
+    }
     io::write_all(STDOUT_FILENO, b": 65536 starts, differing ");
-    io::print_decimal(STDOUT_FILENO, differing(bcd, latched) as u64);
+    io::print_decimal(STDOUT_FILENO, differing(asked, bcd, latched) as u64);
     io::write_all(STDOUT_FILENO, b"\n");
 }
 
+fn report_all(asked: Asked) {
+    report(asked, false, false);
+    report(asked, false, true);
+    report(asked, true, false);
+    report(asked, true, true);
+}
+
+fn few(number: u32) {
+    io::write_all(STDOUT_FILENO, b"as single counts, ");
+    io::print_decimal(STDOUT_FILENO, number as u64);
+    io::write_all(STDOUT_FILENO, b"\n");
+    report_all(Asked::Few(number));
+}
+
+fn many(number: u32) {
+    io::write_all(STDOUT_FILENO, b"in leaps, ");
+    io::print_decimal(STDOUT_FILENO, number as u64);
+    io::write_all(STDOUT_FILENO, b"\n");
+    report_all(Asked::Many(number));
+}
+
 fn main() {
-    report(b"binary", false, false);
-    report(b"binary, latched", false, true);
-    report(b"decimal", true, false);
-    report(b"decimal, latched", true, true);
+    io::write_all(STDOUT_FILENO, b"one count\n");
+    report_all(Asked::One);
+    few(0);
+    few(1);
+    few(2);
+    few(3);
+    few(4);
+    few(11);
+    many(9);
+    many(10);
+    many(9999);
+    many(10000);
+    many(10001);
+    many(65535);
+    many(65536);
+    many(65537);
+    many(4294967295);
 }

@@ -7,10 +7,10 @@ use Rattle.count_starts.proofs.differing.Statement.{statement}
 use Rattle.count_starts.proofs.differing.Tie as tie
 
 abbrev Inv-loop : tie.InvT-loop
-Inv-loop bcd latched wrong₀ start₀ wrong start = (wrong ≤ start) × (start ≤ 65536)
+Inv-loop asked bcd latched wrong₀ start₀ wrong start = (wrong ≤ start) × (start ≤ 65536)
 
 abbrev μ-loop : tie.MeasureT-loop
-μ-loop bcd latched wrong₀ start₀ wrong start = 65536 - start
+μ-loop asked bcd latched wrong₀ start₀ wrong start = 65536 - start
 
 loop-again : tie.Need-loop-again Inv-loop μ-loop
 loop-again c = ⊎-elim (λ w. omega arith) (λ w. omega arith) (c .if1 .came)
