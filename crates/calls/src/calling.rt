@@ -47,7 +47,7 @@ pub fn set_channel_gate(
     on_board(b, turn, events, place)
 }
 
-// Refusals 2 and 6.
+// Refusal 2, whatever the number.
 pub fn counts(b: Board, channel: usize, number: u32) -> Answered
     ensures { λ r. ⌜ outcome r [] ≡ counts b channel number ⌝ }
 {

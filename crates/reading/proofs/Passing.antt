@@ -4,15 +4,14 @@ use Prim.Native.Nat.{ℕ, _<_}
 use mathlib.Core.Bool.{Bool, true, false, cond}
 use mathlib.Core.List.{List, [], _∷_}
 use mathlib.Core.Path.{_≡_, refl, sym, ap, subst}
-use lib.Dec.{ltb, eqb}
+use lib.Dec.{eqb}
 use lib.ListN.{length}
 use borrow.Author.Tests.{eqb-true, eqb-false}
-use Rattle.refusal.specs.Reply.{Reply, refused, accepted}
+use Rattle.refusal.specs.Reply.{Reply, refused}
 use Rattle.numbers.specs.Times.{times}
 use Rattle.channel.specs.declared.Channel.{Channel}
 use Rattle.channel.specs.declared.PitType.{PitType}
 use Rattle.channel.proofs.Keeps.{kept-dirty}
-use Rattle.count.specs.Count.{count}
 use Rattle.load.specs.Write.{writeByte}
 use Rattle.load.proofs.Keeps.{write-keeps}
 use Rattle.gate.specs.Gate.{setGate}
@@ -20,7 +19,7 @@ use Rattle.gate.proofs.Keeps.{gate-keeps}
 use Rattle.board.specs.declared.Board.{Board}
 use Rattle.board.specs.Board.{channelAt, withChannel}
 use Rattle.board.proofs.Channels.{put-found, not-above, by-channel}
-use Rattle.board.specs.Outcome.{Outcome, Value, done, refuse, accept, onChannel, unlessOwed}
+use Rattle.board.specs.Outcome.{Outcome, Value, onChannel, unlessOwed}
 use Rattle.board.specs.Counting.{counts}
 use Rattle.board.specs.Queries.{isDirty}
 use Rattle.ports.specs.declared.port.Port.{Port}
@@ -36,7 +35,6 @@ use Rattle.step.specs.Step.{step, steps}
 use Rattle.step.specs.Accepted.{IsAccepted, unlessRefused, acceptedOf}
 use Rattle.step.specs.Time.{ifAccepted}
 use Rattle.step.specs.Touched.{Touches}
-use Rattle.refusal.proofs.Apart.{refused-not}
 use Rattle.step.proofs.Owing.{by-owed}
 use Rattle.step.proofs.Kept.{settings-kept}
 use Rattle.step.proofs.Leaves.{refused-leaves}
@@ -109,25 +107,14 @@ module _ (b : Board) (three : length (b .channels) ≡ 3) (i : ℕ) (on : i < 3)
       (on-channel [] _ (put-counted 0 _ (counted-kept (kept-dirty (channelAt b i) false)))))
       (λ other. leaves (IsDirty n) other)
 
-  -- the counts of an accepted call are all made
-  counts-made : (number : ℕ) (over : Bool) (value : Value)
-      → cond over (refuse 6 b []) (accept done (withChannel b i (times number count (channelAt b i)))) .reply ≡ accepted value
-      → After number (cond over (refuse 6 b []) (accept done (withChannel b i (times number count (channelAt b i)))))
-  counts-made number true value took = absurd (refused-not 6 value took)
-  counts-made number false value took = put-counted number _ (counted-counts number (channelAt b i))
-
-  counts-here : (number : ℕ) (value : Value) → counts b i number .reply ≡ accepted value → After number (counts b i number)
+  -- the counts of a call are all made, however many
+  counts-here : (number : ℕ) → After number (counts b i number)
   unfolding counts
-  counts-here number value took =
-      rw (not-above i on) (counts-made number (ltb 65536 number) value (rw (not-above i on) at took))
+  counts-here number = rw (not-above i on) (put-counted number _ (counted-counts number (channelAt b i)))
 
-  counts-passes : (n number : ℕ) (same : Bool) → eqb n i ≡ same → (value : Value) → counts b n number .reply ≡ accepted value
-      → After (cond same number 0) (counts b n number)
-  counts-passes n number true e value took =
-      let is : n ≡ i = eqb-true n i e in
-      subst (λ (m : ℕ). After number (counts b m number)) (sym is)
-      (counts-here number value (subst (λ (m : ℕ). counts b m number .reply ≡ accepted value) is took))
-  counts-passes n number false e value took = leaves (Counts n number) (λ is. eqb-false n i e (sym is))
+  counts-passes : (n number : ℕ) (same : Bool) → eqb n i ≡ same → After (cond same number 0) (counts b n number)
+  counts-passes n number true e = subst (λ (m : ℕ). After number (counts b m number)) (sym (eqb-true n i e)) (counts-here number)
+  counts-passes n number false e = leaves (Counts n number) (λ is. eqb-false n i e (sym is))
 
   -- ticks worked off, so many
   work-passes : (made : ℕ) (outcome : Outcome) → outcome .board ≡ times made boardTick b
@@ -135,22 +122,22 @@ module _ (b : Board) (three : length (b .channels) ≡ 3) (i : ℕ) (on : i < 3)
   work-passes made outcome is =
       subst (λ (d : Board). Counted (Unloaded i b made) (takenIn i b made) (channelAt b i) (channelAt d i)) (sym is) (ticks-counted b i on made)
 
-  passes : (o : Operation) → MayPass (b .model) i o → IsAccepted b o → Counted (NoLoad i b o) (countsBy i b o) (channelAt b i) (channelAt (step b o .board) i)
+  passes : (o : Operation) → MayPass (b .model) i o → Counted (NoLoad i b o) (countsBy i b o) (channelAt b i) (channelAt (step b o .board) i)
   unfolding writePort
-  passes (WritePort port byte events place) may took = write-passes (portOf port) byte events place may
-  passes (ReadPort port) may took = leaves (ReadPort port) may
-  passes (SetChannelGate n level events place) may took = gate-passes n level events place
-  passes (Counts n number) may took = counts-passes n number (eqb n i) refl (took .0) (took .1)
-  passes (LoadCycle n) may took = leaves (LoadCycle n) may
-  passes (CatchUp given) may took = leaves (CatchUp given) (λ none. none)
-  passes (Run given) may took = leaves (Run given) (λ none. none)
-  passes Reset may took = absurd may
-  passes (GetOutputState n) may took = leaves (GetOutputState n) (λ none. none)
-  passes (GetChannelCount n) may took = leaves (GetChannelCount n) (λ none. none)
-  passes (DoesChannelRetrigger n) may took = leaves (DoesChannelRetrigger n) (λ none. none)
-  passes (IsDirty n) may took = dirty-passes n
-  passes GetTimerAccum may took = leaves GetTimerAccum (λ none. none)
-  passes (WorkOff stated events place) may took = work-passes _ (step b (WorkOff stated events place)) (ticks-made b stated events place)
+  passes (WritePort port byte events place) may = write-passes (portOf port) byte events place may
+  passes (ReadPort port) may = leaves (ReadPort port) may
+  passes (SetChannelGate n level events place) may = gate-passes n level events place
+  passes (Counts n number) may = counts-passes n number (eqb n i) refl
+  passes (LoadCycle n) may = leaves (LoadCycle n) may
+  passes (CatchUp given) may = leaves (CatchUp given) (λ none. none)
+  passes (Run given) may = leaves (Run given) (λ none. none)
+  passes Reset may = absurd may
+  passes (GetOutputState n) may = leaves (GetOutputState n) (λ none. none)
+  passes (GetChannelCount n) may = leaves (GetChannelCount n) (λ none. none)
+  passes (DoesChannelRetrigger n) may = leaves (DoesChannelRetrigger n) (λ none. none)
+  passes (IsDirty n) may = dirty-passes n
+  passes GetTimerAccum may = leaves GetTimerAccum (λ none. none)
+  passes (WorkOff stated events place) may = work-passes _ (step b (WorkOff stated events place)) (ticks-made b stated events place)
 
   abbrev Passed : Operation → Type 0
   Passed o = Counted (NoLoad i b o) (countsIn i b o) (channelAt b i) (channelAt (step b o .board) i)
@@ -164,7 +151,7 @@ module _ (b : Board) (three : length (b .channels) ≡ 3) (i : ℕ) (on : i < 3)
   pub accepted-passes : (o : Operation) → MayPass (b .model) i o → IsAccepted b o → Passed o
   accepted-passes o may took =
       let all : countsIn i b o ≡ countsBy i b o = ap (λ (reply : Reply Value). ifAccepted reply (countsBy i b o)) (took .1) in
-      rw all (passes o may took)
+      rw all (passes o may)
 
   -- the first call of a list, of which the accepted ones may pass, and what is left of the list
   first-passes : (o : Operation) (os : List Operation) → AllMayPass (b .model) i (acceptedOf b (o ∷ os)) → Passed o × AllMayPass (b .model) i (acceptedOf (step b o .board) os)

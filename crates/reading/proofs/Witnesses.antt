@@ -25,7 +25,7 @@ use Rattle.event.specs.Event.{placeEvent}
 use Rattle.board.specs.declared.Board.{Board}
 use Rattle.board.specs.Board.{channelAt}
 use Rattle.board.specs.Making.{fresh, reset}
-use Rattle.board.specs.Counting.{counts, loadCycle}
+use Rattle.board.specs.Counting.{loadCycle}
 use Rattle.clock.specs.Clock.{run}
 use Rattle.ports.specs.Port.{portOf}
 use Rattle.ports.specs.Settle.{settle}
@@ -33,7 +33,7 @@ use Rattle.ports.specs.Reads.{readPort}
 use Rattle.ports.specs.Writes.{writePort}
 use Rattle.owed.specs.BoardTick.{boardTick}
 use Rattle.owed.specs.Worked.{workOff}
-use Rattle.step.specs.Operation.{WritePort, Counts, LoadCycle, Run, Reset, WorkOff}
+use Rattle.step.specs.Operation.{WritePort, LoadCycle, Run, Reset, WorkOff}
 use Rattle.step.specs.Step.{step, steps}
 use Rattle.step.specs.Accepted.{acceptedOf}
 use Rattle.reading.specs.Beginning.{Begins}
@@ -60,8 +60,8 @@ shortest b i bcd v none begins =
 abbrev counting : Board
 counting = steps (fresh Model8253 12) (WritePort 0x40 5 [] 0 ∷ WritePort 0x40 0 [] 0 ∷ LoadCycle 0 ∷ [])
 
--- A run, and for the ticks then owed a mode set of the channel is refused (16); the ticks are worked off. After the latch more counts than 65,536 are refused (6), and
--- between the reads a reset (16).
+-- A run, and for the ticks then owed a mode set of the channel is refused (16); the ticks are worked off. After the latch a second one is refused for a place past the
+-- event bytes (7), and between the reads a reset (16).
 abbrev withTicks : Calls
 withTicks =
     record {
@@ -69,7 +69,7 @@ withTicks =
       latchByte = 0;
       latchEvents = [];
       latchPlace = 0;
-      after = Counts 0 65537 ∷ [];
+      after = controlWrite 0 [] 1 ∷ [];
       between = Run 12 ∷ Reset ∷ [];
     }
 
@@ -85,7 +85,7 @@ pub with-ticks : Reading counting 0 false 5 withTicks × (countsMade counting 0 
     × (acceptedOf counting (withTicks .before) ≡ Run 24 ∷ WorkOff 2 [] 0 ∷ [])
     × (acceptedOf (latched counting 0 withTicks) (withTicks .after) ≡ [])
     × (acceptedOf (halfRead counting 0 withTicks) (withTicks .between) ≡ Run 12 ∷ [])
-unfolding fresh freshAt writePort portOf settle placeEvent writeByte putRegister completeLoad finalizeLoad changeChannelState changeOutputState putElement loadCycle channel.loadCycle channel.loadValue run ticksFromTime loads taken due boardTick tick agedBy idle withArmed countingOn marked afterCounts count workOff commandOf latchCount readPort counts reset
+unfolding fresh freshAt writePort portOf settle placeEvent writeByte putRegister completeLoad finalizeLoad changeChannelState changeOutputState putElement loadCycle channel.loadCycle channel.loadValue run ticksFromTime loads taken due boardTick tick agedBy idle withArmed countingOn marked afterCounts count workOff commandOf latchCount readPort reset
 with-ticks = (
   record {
     begins = record {

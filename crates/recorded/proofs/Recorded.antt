@@ -60,8 +60,7 @@ turn-made b (recorded.WritePort number byte) = ap inSix (write-is b twoLent 0 nu
 turn-made b (recorded.ReadPort number) = bare b _ _ (read-is b number) (of-read b (portOf number))
 turn-made b (recorded.SetChannelGate channel level) =
     ap inSix (gate-is b twoLent 0 channel level) ∙ either b (ltb 2 channel) _ _ refl (either b (owes b) _ _ refl refl)
-turn-made b (recorded.Counts channel number) =
-    bare b _ _ (counts-is b channel number) (either b (ltb 2 channel) _ _ refl (either b (ltb 65536 number) _ _ refl refl))
+turn-made b (recorded.Counts channel number) = bare b _ _ (counts-is b channel number) (either b (ltb 2 channel) _ _ refl refl)
 turn-made b (recorded.LoadCycle channel) = bare b _ _ (load-cycle-is b channel) (either b (ltb 2 channel) _ _ refl refl)
 turn-made b (recorded.CatchUp given) = bare b _ _ (catch-up-is b given) refl
 turn-made b (recorded.Run given) = bare b _ _ (run-is b given) refl

@@ -6,15 +6,15 @@ use mathlib.Core.Bool.{false}
 use lib.Dec.{eqb, ltb}
 use lib.ListN.{getD}
 use Rattle.refusal.specs.declared.Refusal.{Refusal}
-use Rattle.refusal.specs.declared.Refusal.the-variants.{PortUnknown, ChannelAbove2, DivisorZero, TicksBelowWarp, RemainderTooLarge, TooManyCounts, PlacePastEnd, NoRoom, TraceEnds, SettingsCount, TooManyOperations, UnknownCode, BytesAfter, RuleBroken, TooManyTicks, TicksOwed}
+use Rattle.refusal.specs.declared.Refusal.the-variants.{PortUnknown, ChannelAbove2, DivisorZero, TicksBelowWarp, RemainderTooLarge, PlacePastEnd, NoRoom, TraceEnds, SettingsCount, TooManyOperations, UnknownCode, BytesAfter, RuleBroken, TooManyTicks, TicksOwed}
 use Rattle.refusal.specs.Refusal.{refusalNumber}
 use Rattle.refusal.proofs.Apart.{apart-by}
 
--- no refusal has the number 0, or one above 16; some refusal stands there too
+-- no refusal has the number 0, 6, or one above 16; some refusal stands there too
 abbrev pub refusalNumbered : ℕ → Refusal
 refusalNumbered number =
     getD
-    (PortUnknown ∷ PortUnknown ∷ ChannelAbove2 ∷ DivisorZero ∷ TicksBelowWarp ∷ RemainderTooLarge ∷ TooManyCounts ∷ PlacePastEnd ∷ NoRoom ∷ TraceEnds ∷ SettingsCount ∷ TooManyOperations ∷ UnknownCode ∷ BytesAfter ∷ RuleBroken ∷ TooManyTicks ∷ TicksOwed ∷ [])
+    (PortUnknown ∷ PortUnknown ∷ ChannelAbove2 ∷ DivisorZero ∷ TicksBelowWarp ∷ RemainderTooLarge ∷ PlacePastEnd ∷ PlacePastEnd ∷ NoRoom ∷ TraceEnds ∷ SettingsCount ∷ TooManyOperations ∷ UnknownCode ∷ BytesAfter ∷ RuleBroken ∷ TooManyTicks ∷ TicksOwed ∷ [])
     number
     RuleBroken
 
@@ -26,7 +26,6 @@ in-table ChannelAbove2 = (refl, refl, refl)
 in-table DivisorZero = (refl, refl, refl)
 in-table TicksBelowWarp = (refl, refl, refl)
 in-table RemainderTooLarge = (refl, refl, refl)
-in-table TooManyCounts = (refl, refl, refl)
 in-table PlacePastEnd = (refl, refl, refl)
 in-table NoRoom = (refl, refl, refl)
 in-table TraceEnds = (refl, refl, refl)

@@ -1,7 +1,7 @@
--- Document 01, "Refusal numbers": the number of each refusal; request L1 adds two.
+-- Document 01, "Refusal numbers": the number of each refusal; request L1 adds two, and L6 takes one away.
 use Prim.Native.Nat.{ℕ}
 use Rattle.refusal.specs.declared.Refusal.{Refusal}
-use Rattle.refusal.specs.declared.Refusal.the-variants.{PortUnknown, ChannelAbove2, DivisorZero, TicksBelowWarp, RemainderTooLarge, TooManyCounts, PlacePastEnd, NoRoom, TraceEnds, SettingsCount, TooManyOperations, UnknownCode, BytesAfter, RuleBroken, TooManyTicks, TicksOwed}
+use Rattle.refusal.specs.declared.Refusal.the-variants.{PortUnknown, ChannelAbove2, DivisorZero, TicksBelowWarp, RemainderTooLarge, PlacePastEnd, NoRoom, TraceEnds, SettingsCount, TooManyOperations, UnknownCode, BytesAfter, RuleBroken, TooManyTicks, TicksOwed}
 
 abbrev pub refusalNumber : Refusal → ℕ
 -- "port not 0x40 to 0x43"
@@ -14,8 +14,7 @@ refusalNumber DivisorZero = 3
 refusalNumber TicksBelowWarp = 4
 -- "remainder + (ticks - warp) above 4,294,967,295"
 refusalNumber RemainderTooLarge = 5
--- "more than 65,536 counts asked in one call"
-refusalNumber TooManyCounts = 6
+-- 6 was "more than 65,536 counts asked in one call". Request L6 lifts that limit: "6 is never given again"
 -- "event place past the end of the event bytes"
 refusalNumber PlacePastEnd = 7
 -- "an event is due and fewer than 2 bytes are left from the place"

@@ -1,4 +1,5 @@
-// Why a call or a trace is refused: document 01's table of refusal numbers, and those that request L1 of document 02 adds.
+// Why a call or a trace is refused: document 01's table of refusal numbers, and those that request L1 of document 02 adds. The table's 6 is gone:
+// request L6 lifts the limit that it stood for.
 ghost use mathlib.Core.Path.{_≡_};
 ghost use Rattle.refusal.specs.Refusal.{refusalNumber};
 
@@ -8,7 +9,6 @@ pub enum Refusal {
     DivisorZero,
     TicksBelowWarp,
     RemainderTooLarge,
-    TooManyCounts,
     PlacePastEnd,
     NoRoom,
     TraceEnds,
@@ -31,7 +31,7 @@ impl Refusal {
             Refusal::DivisorZero => 3,
             Refusal::TicksBelowWarp => 4,
             Refusal::RemainderTooLarge => 5,
-            Refusal::TooManyCounts => 6,
+            // 6 is not given again.
             Refusal::PlacePastEnd => 7,
             Refusal::NoRoom => 8,
             Refusal::TraceEnds => 9,

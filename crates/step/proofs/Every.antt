@@ -77,12 +77,6 @@ module _ (b : Board) (P : List ℕ → ℕ → Outcome → Type 0)
     owing-every : (events : List ℕ) (outcome : Outcome) → P events 0 outcome → P events 0 (unlessOwed b events outcome)
     owing-every events outcome holds = by-owed (P events 0) b events outcome (λ owes. refuses events 16) (λ none. holds)
 
-    counts-every : (n number : ℕ) → P [] 0 (counts b n number)
-    unfolding counts
-    counts-every n number =
-        by-channel (P [] 0) b n [] _ (refuses [] 2)
-        (λ on. pick-holds (P [] 0) (ltb 65536 number) (refuse 6 b []) _ (refuses [] 6) (accepts [] [] done _ (refl, refl) refl (put-three n _)))
-
     event-every : (event : Event) (channels : List Channel) (events : List ℕ) (place : ℕ) → (length (b .channels) ≡ 3 → length channels ≡ 3)
         → P events 0 (placedOn b (withChannels b channels) (placeEvent event events place))
     event-every Unchanged channels events place three =
@@ -151,11 +145,11 @@ module _ (b : Board) (P : List ℕ → ℕ → Outcome → Type 0)
 
     -- every operation: of ticks worked off and of time is asked only where it is such a call
     pub every-asked : (o : Operation) → (kindOf o .works ≡ true → Works) → ((given warp : ℕ) → Leaves o given warp → Yields given warp) → P (lent o) (systemTaken b o) (step b o)
-    unfolding writePort readPort loadCycle catchUp run getOutputState getChannelCount doesChannelRetrigger isDirty
+    unfolding writePort readPort counts loadCycle catchUp run getOutputState getChannelCount doesChannelRetrigger isDirty
     every-asked (WritePort port byte events place) works yields = write-every (portOf port) byte events place
     every-asked (ReadPort port) works yields = read-every (portOf port)
     every-asked (SetChannelGate n level events place) works yields = gate-every n level events place
-    every-asked (Counts n number) works yields = counts-every n number
+    every-asked (Counts n number) works yields = accepted-on n _ _ (refl, refl) (put-three n _)
     every-asked (LoadCycle n) works yields = accepted-on n _ _ (refl, refl) (put-three n _)
     every-asked (CatchUp given) works yields = time-every given given true (yields given given (inl (refl, refl)))
     every-asked (Run given) works yields = time-every given 0 (b .defer) (yields given 0 (inr (refl, refl)))

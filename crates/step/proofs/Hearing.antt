@@ -5,7 +5,7 @@ use mathlib.Core.Bool.{Bool, true, false, cond}
 use mathlib.Core.List.{List, []}
 use mathlib.Core.Path.{_≡_, refl, sym, ap, subst, _∙_}
 use native.Mathlib.Omega.{arith}
-use lib.Dec.{eqb, ltb}
+use lib.Dec.{eqb}
 use lib.ListN.{length}
 use borrow.Author.Tests.{eqb-true, eqb-false, ne-eqb}
 use Rattle.numbers.specs.Times.{times}
@@ -32,7 +32,7 @@ use Rattle.gate.specs.Gate.{setGate}
 use Rattle.tick.specs.Tick.{tick}
 use Rattle.board.specs.declared.Board.{Board}
 use Rattle.board.specs.Board.{channelAt, withChannel}
-use Rattle.board.specs.Outcome.{Outcome, Value, done, refuse, accept, unlessOwed}
+use Rattle.board.specs.Outcome.{Outcome, Value, done, accept, unlessOwed}
 use Rattle.board.specs.Making.{restored, reset}
 use Rattle.board.specs.Counting.{counts, loadCycle}
 use Rattle.board.specs.Queries.{isDirty}
@@ -242,17 +242,11 @@ module _ {G : Type 0} (l : Listener G) (b : Board) (R : G → Channel → Type 0
       (settled-now (l .on-gate level g) (setGate (channelAt b i) level) events place value (kept .gate-kept g (channelAt b i) level now) (rw (not-above i on) at took)))
 
   -- counts and load cycles by hand
-  counts-by : (number : ℕ) (over : Bool) (value : Value)
-      → cond over (refuse 6 b []) (accept done (withChannel b i (times number count (channelAt b i)))) .reply ≡ accepted value
-      → Then (l .on-counts number g) (cond over (refuse 6 b []) (accept done (withChannel b i (times number count (channelAt b i)))) .board)
-  counts-by number true value took = absurd (refused-not 6 value took)
-  counts-by number false value took = placed (l .on-counts number g) (times number count (channelAt b i)) (kept .counts-kept g (channelAt b i) number now)
-
-  counts-turn : (n number : ℕ) (value : Value) → n ≡ i → counts b n number .reply ≡ accepted value → Then (l .on-counts number g) (counts b n number .board)
+  counts-turn : (n number : ℕ) → n ≡ i → Then (l .on-counts number g) (counts b n number .board)
   unfolding counts
-  counts-turn n number value is =
-      subst (λ (m : ℕ). counts b m number .reply ≡ accepted value → Then (l .on-counts number g) (counts b m number .board)) (sym is)
-      (λ took. rw (not-above i on) (counts-by number (ltb 65536 number) value (rw (not-above i on) at took)))
+  counts-turn n number is =
+      subst (λ (m : ℕ). Then (l .on-counts number g) (counts b m number .board)) (sym is)
+      (rw (not-above i on) (placed (l .on-counts number g) (times number count (channelAt b i)) (kept .counts-kept g (channelAt b i) number now)))
 
   cycle-turn : (n : ℕ) → n ≡ i → Then (l .on-cycle (channelAt b i) g) (loadCycle b n .board)
   unfolding loadCycle
@@ -317,7 +311,7 @@ module _ {G : Type 0} (l : Listener G) (b : Board) (R : G → Channel → Type 0
       (eqb n i)
       refl
   call-kept (Counts n number) heeded value took =
-      by-channel n (l .on-counts number g) (counts b n number .board) (λ is. counts-turn n number value is took) (λ other. leaves (Counts n number) other) (eqb n i) refl
+      by-channel n (l .on-counts number g) (counts b n number .board) (counts-turn n number) (λ other. leaves (Counts n number) other) (eqb n i) refl
   call-kept (LoadCycle n) heeded value took =
       by-channel n (l .on-cycle (channelAt b i) g) (loadCycle b n .board) (cycle-turn n) (λ other. leaves (LoadCycle n) other) (eqb n i) refl
   call-kept (CatchUp given) heeded value took = leaves (CatchUp given) (λ none. none)

@@ -38,7 +38,7 @@ use Rattle.ports.specs.Writes.{controlRegisterWrite, dataWrite, writeTo, writeP
 use Rattle.owed.specs.Worked.{workOff}
 use Rattle.step.specs.Operation.{Operation, WritePort, ReadPort, SetChannelGate, Counts, LoadCycle, CatchUp, Run, Reset, GetOutputState, GetChannelCount, DoesChannelRetrigger, IsDirty, GetTimerAccum, WorkOff}
 use Rattle.step.specs.Step.{step}
-use Rattle.step.specs.Refusals.{Row, Changes, portUnknown, channelAbove2, divisorZero, ticksBelowWarp, remainderTooLarge, tooManyCounts, placePastEnd, tooManyTicks, ticksOwed, CommandDue, WriteDue, GateDue, roomOrder, timeOrder, order, makingOrder, FirstOf}
+use Rattle.step.specs.Refusals.{Row, Changes, portUnknown, channelAbove2, divisorZero, ticksBelowWarp, remainderTooLarge, placePastEnd, tooManyTicks, ticksOwed, CommandDue, WriteDue, GateDue, roomOrder, timeOrder, order, makingOrder, FirstOf}
 use Rattle.step.proofs.Levels.{write-level, gate-level, mode-level, latch-level}
 use Rattle.step.proofs.Deciding.{accepts, holding, failing, tested}
 use Rattle.step.proofs.Settled.{settle-refused, untouched-refused, read-back-refused}
@@ -58,16 +58,10 @@ unless-owed b events outcome rest k others =
     (λ owes. holding (ticksOwed b) rest k owes)
     (λ none. failing (ticksOwed b) rest (outcome .reply) k (λ (owes : 0 < b .owed .0). omega arith) others)
 
--- a query, a load cycle, is_dirty
+-- a query, counts, a load cycle, is_dirty
 accepted-on : (b : Board) (n : ℕ) (value : Value) (after : Board) (k : ℕ)
     → (onChannel b n [] (accept value after) .reply ≡ refused k) ↔ FirstOf (channelAbove2 n ∷ []) k
 accepted-on b n value after k = on-channel b n [] (accept value after) [] k (accepts value k)
-
-counts-refused : (b : Board) (n number k : ℕ) → (counts b n number .reply ≡ refused k) ↔ FirstOf (channelAbove2 n ∷ tooManyCounts number ∷ []) k
-unfolding counts
-counts-refused b n number k =
-    on-channel b n [] _ (tooManyCounts number ∷ []) k
-    (simp (of-pick (λ (o : Outcome). o .reply)) (tested (ltb 65536 number) (tooManyCounts number) [] _ k (below 65536 number) (accepts _ k)))
 
 -- "4, 5"
 abbrev warpOrder : Board → ℕ → List Row
@@ -157,11 +151,11 @@ work-refused b stated events place k =
 
 -- both directions, for every board, operation and number
 pub refused-exactly : (b : Board) (o : Operation) (k : ℕ) → (step b o .reply ≡ refused k) ↔ FirstOf (order b o) k
-unfolding loadCycle catchUp run getOutputState getChannelCount doesChannelRetrigger isDirty
+unfolding counts loadCycle catchUp run getOutputState getChannelCount doesChannelRetrigger isDirty
 refused-exactly b (WritePort port byte events place) k = write-refused b port byte events place k
 refused-exactly b (ReadPort port) k = read-refused b port k
 refused-exactly b (SetChannelGate n level events place) k = gate-refused b n level events place k
-refused-exactly b (Counts n number) k = counts-refused b n number k
+refused-exactly b (Counts n number) k = accepted-on b n _ _ k
 refused-exactly b (LoadCycle n) k = accepted-on b n _ _ k
 refused-exactly b (CatchUp given) k = time-refused b given given true k
 refused-exactly b (Run given) k = time-refused b given 0 (b .defer) k

@@ -3,20 +3,18 @@ use Prim.Native.Nat.{ℕ, zero, suc, _<_}
 use mathlib.Core.Bool.{false, true≢false}
 use mathlib.Core.List.{[]}
 use mathlib.Core.Path.{_≡_, refl, ap, _∙_}
-use lib.Dec.{ltb}
 use lib.ListN.{length}
 use Rattle.numbers.specs.Times.{times}
 use Rattle.channel.specs.declared.Channel.{Channel}
 use Rattle.channel.specs.declared.Pins.{Pins}
 use Rattle.channel.specs.Shared.{putElement}
-use Rattle.channel.proofs.Pick.{pick-holds}
 use Rattle.count.specs.Count.{count}
 use Rattle.latch.specs.Reading.{readByte}
 use Rattle.latch.proofs.Words.{read-pins}
 use Rattle.load.proofs.Stays.{pins-stay}
 use Rattle.board.specs.declared.Board.{Board}
 use Rattle.board.specs.Board.{channelAt, withChannel}
-use Rattle.board.specs.Outcome.{Outcome, refuse}
+use Rattle.board.specs.Outcome.{Outcome}
 use Rattle.board.proofs.Channels.{by-channel}
 use Rattle.board.specs.Counting.{counts, loadCycle}
 use Rattle.board.specs.Queries.{isDirty}
@@ -57,20 +55,12 @@ module _ (b : Board) (three : length (b .channels) ≡ 3) (m : ℕ) where
   read-still number Command is = refl
   read-still number Unknown is = refl
 
-  counts-still : (n number : ℕ) → Still (counts b n number)
-  unfolding counts
-  counts-still n number =
-      by-channel Still b n [] _ refl
-      (λ on.
-      pick-holds Still (ltb 65536 number) (refuse 6 b []) _ refl
-      (put-still n on (times number count (channelAt b n)) (counts-pins number (channelAt b n))))
-
   pub others-still : (o : Operation) → mayMove o ≡ false → levelAt (step b o .board) m ≡ levelAt b m
-  unfolding readPort loadCycle isDirty
+  unfolding readPort counts loadCycle isDirty
   others-still (WritePort port x events place) moves = absurd (true≢false moves)
   others-still (ReadPort port) moves = read-still port (portOf port) refl
   others-still (SetChannelGate n level events place) moves = absurd (true≢false moves)
-  others-still (Counts n number) moves = counts-still n number
+  others-still (Counts n number) moves = by-channel Still b n [] _ refl (λ on. put-still n on _ (counts-pins number (channelAt b n)))
   others-still (LoadCycle n) moves = by-channel Still b n [] _ refl (λ on. put-still n on _ (pins-stay (channelAt b n)))
   others-still (CatchUp given) moves = stays-still (CatchUp given) (λ none. none)
   others-still (Run given) moves = stays-still (Run given) (λ none. none)

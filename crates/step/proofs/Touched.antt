@@ -3,10 +3,8 @@ use Prim.Native.Nat.{ℕ}
 use mathlib.Core.Bool.{Bool, true, false}
 use mathlib.Core.List.{List, []}
 use mathlib.Core.Path.{_≡_, refl}
-use lib.Dec.{ltb}
 use Rattle.refusal.specs.Reply.{Reply, refused, accepted}
 use Rattle.channel.specs.declared.Channel.{Channel}
-use Rattle.channel.proofs.Pick.{pick-holds}
 use Rattle.control.specs.declared.Command.{Command}
 use Rattle.control.specs.declared.Command.the-variants.{Nothing, LatchCount, SetMode, ReadBack}
 use Rattle.control.specs.Control.{names, commandOf}
@@ -14,7 +12,7 @@ use Rattle.time.specs.Time.{Yield}
 use Rattle.board.specs.declared.Board.{Board}
 use Rattle.board.specs.Board.{channelAt}
 use Rattle.board.proofs.Channels.{put-other, by-channel}
-use Rattle.board.specs.Outcome.{Outcome, refuse, accept, unlessOwed}
+use Rattle.board.specs.Outcome.{Outcome, accept, unlessOwed}
 use Rattle.board.specs.Counting.{counts, loadCycle}
 use Rattle.board.specs.Queries.{getOutputState, getChannelCount, doesChannelRetrigger, isDirty}
 use Rattle.clock.specs.Clock.{elapsed, yielding, timely, catchUp, run}
@@ -70,17 +68,12 @@ module _ (b : Board) (m : ℕ) where
   time-stays : (warp : ℕ) (defer : Bool) (made : Reply Yield) → Stays (timely b (yielding b warp defer made))
   time-stays warp defer made = by-timely Stays b (yielding b warp defer made) refl (λ owes. refl) (λ none. yielding-stays warp defer made)
 
-  counts-stays : (n number : ℕ) → (m ≡ n → ⊥) → Stays (counts b n number)
-  unfolding counts
-  counts-stays n number other =
-      by-channel Stays b n [] _ refl (λ on. pick-holds Stays (ltb 65536 number) (refuse 6 b []) _ refl (put-other b n m _ other))
-
   pub untouched-stays : (o : Operation) → (Touches (b .model) o m → ⊥) → channelAt (step b o .board) m ≡ channelAt b m
-  unfolding setChannelGate writePort readPort loadCycle catchUp run getOutputState getChannelCount doesChannelRetrigger isDirty
+  unfolding setChannelGate writePort readPort counts loadCycle catchUp run getOutputState getChannelCount doesChannelRetrigger isDirty
   untouched-stays (WritePort port byte events place) other = write-stays (portOf port) byte events place other
   untouched-stays (ReadPort port) other = read-stays (portOf port) other
   untouched-stays (SetChannelGate n level events place) other = by-channel Stays b n events _ refl (λ on. owing-stays events _ (settle-stays n _ events place other))
-  untouched-stays (Counts n number) other = counts-stays n number other
+  untouched-stays (Counts n number) other = by-channel Stays b n [] _ refl (λ on. put-other b n m _ other)
   untouched-stays (LoadCycle n) other = by-channel Stays b n [] _ refl (λ on. put-other b n m _ other)
   untouched-stays (CatchUp given) other = time-stays given true (elapsed b given)
   untouched-stays (Run given) other = time-stays 0 (b .defer) (elapsed b given)

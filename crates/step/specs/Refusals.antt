@@ -42,9 +42,7 @@ ticksBelowWarp b given = record { number = 4; condition = given < b .warp .0 }
 abbrev pub remainderTooLarge : Board → ℕ → Row
 remainderTooLarge b given = record { number = 5; condition = 4294967295 < b .remainder .0 + (given - b .warp .0) }
 
--- 6: "more than 65,536 counts asked in one call"
-abbrev pub tooManyCounts : ℕ → Row
-tooManyCounts number = record { number = 6; condition = 65536 < number }
+-- 6 was "more than 65,536 counts asked in one call", and "is never given again" (02, L6)
 
 -- 7: "event place past the end of the event bytes"
 abbrev pub placePastEnd : List ℕ → ℕ → Row
@@ -91,13 +89,13 @@ roomOrder due events place = placePastEnd events place ∷ noRoom due events pla
 abbrev pub timeOrder : Board → ℕ → List Row
 timeOrder b given = divisorZero (b .divisor) ∷ ticksOwed b ∷ ticksBelowWarp b given ∷ remainderTooLarge b given ∷ []
 
--- "Order: port write 1, 7, 8; read 1; gate 2, 7, 8; counts 2, 6; load cycle and channel queries 2; time calls 3, 4, 5";
--- 16 "right after 1, 2 or 3 where these apply"; "15 ..., after 7"
+-- "Order: port write 1, 7, 8; read 1; gate 2, 7, 8; counts 2, 6; load cycle and channel queries 2; time calls 3, 4, 5"; "6 is never given
+-- again" (02, L6); 16 "right after 1, 2 or 3 where these apply"; "15 ..., after 7"
 abbrev pub order : Board → Operation → List Row
 order b (WritePort port byte events place) = portUnknown port ∷ ticksOwed b ∷ roomOrder (WriteDue b (portOf port) byte) events place
 order b (ReadPort port) = portUnknown port ∷ []
 order b (SetChannelGate channel level events place) = channelAbove2 channel ∷ ticksOwed b ∷ roomOrder (GateDue b channel level) events place
-order b (Counts channel number) = channelAbove2 channel ∷ tooManyCounts number ∷ []
+order b (Counts channel number) = channelAbove2 channel ∷ []
 order b (LoadCycle channel) = channelAbove2 channel ∷ []
 order b (CatchUp given) = timeOrder b given
 order b (Run given) = timeOrder b given

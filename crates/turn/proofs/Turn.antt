@@ -99,9 +99,7 @@ module _ (b : Board) where
   pub counts-is : (n number : ℕ) → Bare b (counts b n number) (finding.countsTurn n number)
   unfolding counts
   counts-is n number =
-      bare-unless (ltb 2 n) refusal.ChannelAbove2 b _ _
-      (bare-unless (ltb 65536 number) refusal.TooManyCounts b _ (turn.OnChannel n (work.Counts number))
-      (record { same = λ events place. refl; none = refl }))
+      bare-unless (ltb 2 n) refusal.ChannelAbove2 b _ (turn.OnChannel n (work.Counts number)) (record { same = λ events place. refl; none = refl })
 
   pub load-cycle-is : (n : ℕ) → Bare b (loadCycle b n) (finding.loadCycleTurn n)
   unfolding loadCycle

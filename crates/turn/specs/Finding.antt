@@ -4,7 +4,7 @@ use Prim.Native.Nat.{ℕ}
 use mathlib.Core.Bool.{Bool, true, false, cond}
 use lib.Dec.{ltb}
 use Rattle.refusal.specs.declared.Refusal.{Refusal}
-use Rattle.refusal.specs.declared.Refusal.the-variants.{PortUnknown, ChannelAbove2, TooManyCounts, TicksOwed}
+use Rattle.refusal.specs.declared.Refusal.the-variants.{PortUnknown, ChannelAbove2, TicksOwed}
 use Rattle.channel.specs.declared.PitType.{PitType}
 use Rattle.control.specs.declared.Command.{Command}
 use Rattle.control.specs.declared.Command.the-variants as command
@@ -53,11 +53,11 @@ channelTurn channel turn = cond (ltb 2 channel) (refuse ChannelAbove2) turn
 abbrev pub gateTurn : Bool → ℕ → Bool → Turn
 gateTurn owing channel level = channelTurn channel (unlessOwing owing (OnChannel channel (work.SetGate level)))
 
--- 6 "more than 65,536 counts asked in one call"
+-- counts have refusal 2 alone, whatever their number: "Lift the limit on one call to 4,294,967,295" (02, L6)
 abbrev pub countsTurn : ℕ → ℕ → Turn
-countsTurn channel number = channelTurn channel (cond (ltb 65536 number) (refuse TooManyCounts) (OnChannel channel (work.Counts number)))
+countsTurn channel number = channelTurn channel (OnChannel channel (work.Counts number))
 
--- a load cycle has refusal 2 alone
+-- so has a load cycle
 abbrev pub loadCycleTurn : ℕ → Turn
 loadCycleTurn channel = channelTurn channel (OnChannel channel work.LoadCycle)
 

@@ -116,15 +116,12 @@ pub fn gate_turn(channel: usize, level: bool, owing: bool) -> Turn
     Turn::OnChannel(channel as u8, Work::SetGate(level))
 }
 
-// Refusals 2 and 6.
+// Refusal 2, whatever the number.
 pub fn counts_turn(channel: usize, number: u32) -> Turn
     ensures { λ r. ⌜ Finds (countsTurn channel number) r ⌝ }
 {
     if 2 < channel {
         return refuse(Refusal::ChannelAbove2);
-    }
-    if 65536 < number {
-        return refuse(Refusal::TooManyCounts);
     }
     Turn::OnChannel(channel as u8, Work::Counts(number))
 }

@@ -10,10 +10,7 @@ returns : tie.Need-returns
 returns c = rw (c .refuse .ensures, lt-ltb _ _ (c .before .if1 .taken)) (refl, tt)
 
 returns-2 : tie.Need-returns-2
-returns-2 c = rw (c .refuse2 .ensures, le-ltb _ _ (c .before .before .if1 .left), lt-ltb _ _ (c .before .if2 .taken)) (refl, tt)
-
-returns-3 : tie.Need-returns-3
-returns-3 c = rw (le-ltb _ _ (c .before .if1 .left), le-ltb _ _ (c .if2 .left)) (refl, omega arith)
+returns-2 c = rw (le-ltb _ _ (c .if1 .left)) (refl, omega arith)
 
 pub counts-turn-spec : {M : Type 1} → statement M
 counts-turn-spec =
@@ -21,7 +18,5 @@ counts-turn-spec =
     (tie.spec
     (λ c κs. search needs)
     returns
-    (λ c κs. search needs)
-    returns-2
     (λ c. search needs)
-    returns-3)
+    returns-2)
