@@ -80,7 +80,8 @@ fn say_time(b: Board) {
     say(b"\n");
 }
 
-// In BCD, where 65,536 counts do not come back to their start: from 0 to 4464, which is 17508 as a binary number.
+// In BCD, where 65,536 counts do not come back to their start: from 0 to 4464, which is 17508 as a binary number. One more come to 4463, and the
+// most that a call can be asked for to 2705.
 fn counts(number: u32) {
     say_number(b"counts ", number);
     say(b": ");
@@ -238,6 +239,7 @@ fn working_off() {
 fn main() {
     counts(65536);
     counts(65537);
+    counts(4294967295);
     run(warped(), 100);
     run(warped(), 99);
     run(nearly_full(), 100);

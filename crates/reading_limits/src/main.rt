@@ -251,14 +251,14 @@ fn conditions() {
     );
 }
 
+// A run while a tick is owed is refused, and its own tick is never made.
 fn refusals() {
-    let none = counts(fresh(), 65537);
-    let all = counts(counts(fresh(), 65536), 1);
+    let start = load(fresh(), 5, 0);
     case(
-        b"refused counts",
-        latch_and_read(none),
-        latch_and_read(all),
-        0xFFFF,
+        b"refused run",
+        latch_and_read(tick(owing(start))),
+        latch_and_read(tick(tick(start))),
+        3,
     );
     let moving = counts(write_at(fresh(), COMMAND, LATCH, 3), 1);
     let held = counts(latch(fresh()), 1);

@@ -256,8 +256,9 @@ fn when_run() {
     whole(b"read, port 0", 2, 0, 0);
     whole(b"gate, number 1", 3, 0, 1);
     whole(b"gate, channel 255", 3, 255, 1);
-    whole(b"counts, number 65536", 4, 2, 65536);
+    whole(b"counts, number 65537", 4, 0, 65537);
     whole(b"counts, number 4294967295", 4, 2, 4294967295);
+    whole(b"counts, channel 3, number 4294967295", 4, 3, 4294967295);
     whole(b"load cycle, channel 3", 5, 3, 0);
     whole(b"catch-up, number 4294967295", 6, 0, 4294967295);
     whole(b"run, number 0", 7, 0, 0);
