@@ -9,8 +9,8 @@ ghost use Rattle.numbers.specs.Digits.{GoodDigits, packed};
 ghost use Rattle.numbers.specs.Times.{times};
 ghost use Rattle.count.specs.Step.{decimalStep};
 
-// So few counts cost less than the table: docs/PERFORMANCE.md.
-const FEW: u32 = 32;
+// The table is put together wherever it is used, which takes as long as some fifty steps (docs/PERFORMANCE.md). Fewer counts go digit by digit.
+const TABLE_PAYS_FROM: u32 = 50;
 
 // The table has three digits; the thousands stand beside it.
 fn four_digits(value: u16) -> u16
@@ -42,7 +42,7 @@ fn by_digits(element: u16, number: u32) -> u16
 pub(crate) fn decimal_steps(element: u16, number: u32) -> u16
     ensures { λ r. ⌜ r ≡ times number decimalStep element ⌝ }
 {
-    if number < FEW {
+    if number < TABLE_PAYS_FROM {
         return by_digits(element, number);
     }
     if numbers::good_digits(element) {

@@ -3,6 +3,7 @@ pub mod Deciding
 pub mod Settled
 pub mod Owing
 pub mod Refusals
+pub mod NeverSix
 pub mod Working
 pub mod Every
 pub mod Leaves
