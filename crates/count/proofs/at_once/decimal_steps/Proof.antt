@@ -6,7 +6,7 @@ use Rattle.count.proofs.at_once.decimal_steps.Statement.{statement}
 use Rattle.count.proofs.at_once.decimal_steps.Tie as tie
 
 by-table-requires : tie.Need-by-table-requires
-by-table-requires c κs = tested-good _ (sym (c .before .good-digits .ensures) ∙ c .if2 .taken)
+by-table-requires c κs = tested-good (c .before .before .before .args .element) (sym (c .before .good-digits .ensures) ∙ c .if2 .taken)
 
 pub decimal-steps-spec : {M : Type 1} → statement M
 decimal-steps-spec =
