@@ -1,18 +1,17 @@
 //! Every port and channel number, every control and data byte, read-backs beside all that is held, every place of a read on all three channels, every gate edge at every event room and place, and
 //! every time call at the edges of warp, divisor and the 32 bits.
 
-use crate::board_fields::BoardField;
 use crate::board_judge::BoardJudge;
 use crate::board_operations::{operation, NAMES};
 use crate::exhaustive::{ACCESSES, FLAG};
-use crate::fields::{each_combination, Field, ACCESS, ELEMENT, GATE, LATCHED, MODE, NULL_COUNT, OUTPUT, READ_STATE, STATE, STATUS_LATCH};
+use crate::fields::{each_combination, Field, ACCESS, GATE, LATCHED, MODE, NULL_COUNT, OUTPUT, READ_STATE, STATE, STATUS_LATCH};
 use crate::random::Random;
 use original::pit::board::{fresh, put_number, record_at, Board, DEFER, DIVISOR, MODEL, REMAINDER, WARP};
 use original::pit::board_operation::{BoardOperation, Events, EVENT_ROOM};
 use original::pit::record::RECORD_BYTES;
 
 const ROOMS: std::ops::RangeInclusive<u8> = 0..=6;
-const ROOMY: Events = Events { bytes: [0xEE; EVENT_ROOM], len: 8 };
+pub const ROOMY: Events = Events { bytes: [0xEE; EVENT_ROOM], len: 8 };
 
 /// Divisors, and numbers of ticks, at which something changes.
 const DIVISORS: [u32; 14] = [0, 1, 2, 3, 4, 5, 11, 12, 13, 65_536, 0x10_0000, 0x7FFF_FFFF, 0xFFFF_FFFE, 0xFFFF_FFFF];
@@ -24,7 +23,6 @@ pub fn run(judge: &mut BoardJudge) {
     read_backs(judge);
     reads(judge);
     gates(judge);
-    counts(judge);
     times(judge);
     judge.settle();
 }
@@ -125,20 +123,6 @@ fn gates(judge: &mut BoardJudge) {
             }
             let events = random.events_of(room);
             judge.ask(&board, &events, BoardOperation { place, ..operation(3, c, levels >> 2) });
-        }
-    }
-}
-
-/// Numbers of counts at and beside the limit, and such as go round, from several elements in both radixes.
-fn counts(judge: &mut BoardJudge) {
-    let mut random = Random(24);
-    let numbers = [0, 1, 2, 3, 9, 10, 11, 99, 100, 9_999, 10_000, 10_001, 65_535, 65_536, 65_537, 65_538, 131_072, u32::MAX];
-    for (number, c) in numbers.iter().flat_map(|number| (0..3).map(move |c| (*number, c))) {
-        for (element, bcd) in [0, 1, 0x10, 0x1000, 0x9999, 0xABCD, 0xFFFF].iter().flat_map(|element| [(element, 0), (element, 1)]) {
-            let mut board = random.board();
-            ELEMENT.put(&mut board[record_at(usize::from(c))..], *element);
-            BoardField::named(&format!("bcd_mode:{c}")).expect("a field").put(&mut board, bcd);
-            judge.ask(&board, &ROOMY, operation(4, c, number));
         }
     }
 }

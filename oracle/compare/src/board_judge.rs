@@ -62,6 +62,12 @@ impl<'a> BoardJudge<'a> {
     /// Asks both sides for one operation and hands back what is due.
     pub fn ask(&mut self, start: &Board, events: &Events, op: BoardOperation) -> BoardOutcome {
         let outcome = self.reference.operation(start, events, op);
+        self.expect(start, events, op, outcome);
+        outcome
+    }
+
+    /// Asks ours alone, where what is due is known.
+    pub fn expect(&mut self, start: &Board, events: &Events, op: BoardOperation, outcome: BoardOutcome) {
         self.waiting.push(Waiting { start: *start, events: *events, op, outcome });
         self.frames.push(BoardFrame::operation(start, events, op));
         self.compared[board_operations::place(op.code).expect("a code of the table")] += 1;
@@ -77,7 +83,6 @@ impl<'a> BoardJudge<'a> {
         if self.frames.len() == MOST {
             self.settle();
         }
-        outcome
     }
 
     /// Makes the calls that wait and compares them.

@@ -39,7 +39,7 @@ fn waiting(judge: &mut BoardJudge) {
             let number = match code {
                 1 => random.below(256) as u32,
                 3 => random.below(2) as u32,
-                4 => random.one_of(&[0, 1, 3, 65_537]),
+                4 => random.one_of(&[0, 1, 3, 10_001, 65_537, u32::MAX]),
                 6 | 7 | WORK_OFF => random.below(30) as u32,
                 _ => 0,
             };

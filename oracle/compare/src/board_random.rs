@@ -137,6 +137,28 @@ impl Random {
         }
     }
 
+    /// The number of an operation, or in the place of every fourth number of counts one by the thousand. The frozen samples are made without these.
+    pub fn often_by_thousands(&mut self, code: u8, number: u32) -> u32 {
+        match code {
+            4 if self.one_in(4) => self.thousands(),
+            _ => number,
+        }
+    }
+
+    /// From some hundreds to 200,000, often beside a number at which something goes round; and now and then any number.
+    fn thousands(&mut self) -> u32 {
+        let (few, near) = (1 + self.below(20) as u32, self.below(3) as u32);
+        match self.below(16) {
+            0..=3 => 100 + self.below(900) as u32,
+            4..=7 => 1_000 * few + near - 1,
+            8 | 9 => 10_000 * few + near - 1,
+            10 => 65_536 * (1 + few % 3) + near - 1,
+            11..=13 => self.below(200_001) as u32,
+            14 => u32::MAX - self.below(20_000) as u32,
+            _ => self.next() as u32,
+        }
+    }
+
     fn how_many(&mut self) -> u32 {
         match self.below(256) {
             0 => self.one_of(&[65_535, 65_536]),
@@ -225,7 +247,9 @@ pub fn run(judge: &mut BoardJudge, operations: u64, seed: u64) {
         for _ in 0..chain.min(left) {
             let events = random.events();
             let op = random.board_operation(&board, &events);
-            board = judge.ask(&board, &events, random.often_for_channel_3(op)).board;
+            let mut op = random.often_for_channel_3(op);
+            op.number = random.often_by_thousands(op.code, op.number);
+            board = judge.ask(&board, &events, op).board;
             // Not all ticks are worked off: some are forgotten, so that the original is asked more.
             if random.one_in(4) {
                 put_number(&mut board, OWED, 0);

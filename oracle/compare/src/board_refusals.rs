@@ -99,7 +99,7 @@ fn any_of(random: &mut Random, code: u8) -> BoardOperation {
     };
     let number = match code {
         1 | 3 => random.below(2) as u32,
-        4 => random.one_of(&[0, 1, 65_537]),
+        4 => random.one_of(&[0, 1, 65_537, u32::MAX]),
         6 | 7 => random.one_of(&[0, 1, u32::MAX]),
         9 => random.one_of(&[0, 1, 65_537]),
         _ => 0,

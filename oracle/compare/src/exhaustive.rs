@@ -16,7 +16,7 @@ const LATCHES: &[u32] = &[0, 1, 0xFF, 0x100, 0xFF00, 0x1234, 0xA55A, 0xFFFF];
 pub const STATUSES: &[u32] = &[0, 1, 0xB6, 0xCF];
 
 /// A record whose numbers are all different, so that one stored in another's place shows.
-fn telling() -> Record {
+pub fn telling() -> Record {
     let mut record = fresh();
     for (field, value) in [(MASK, 0xFFFE), (REGISTER, 0x1234), (RELOAD, 0x5679), (CYCLES, 0x0A0B_0C0D), (ELEMENT, 0x9ABC), (LATCH, 0xDEF1)]
     {

@@ -34,9 +34,10 @@ const SEED: u64 = 8255;
 /// Stands in the answer before a call.
 const OLD_ANSWER: u8 = 0xA5;
 
-/// The most counts or ticks that a random case makes; more take time in every gate run. More than may be asked for are refused at once.
+/// The most counts or ticks that a random case makes, but for more than 65,536: so many ticks are refused, and so many counts were until request L6. The cases are those of before it, so that only the
+/// answers to these are others.
 pub const MOST_COUNTS: u32 = 300;
-const MAY_BE_ASKED: u32 = 65_536;
+const REFUSED_ABOVE: u32 = 65_536;
 
 pub struct Sample {
     pub random: Random,
@@ -78,7 +79,7 @@ impl Sample {
         let op = self.random.board_operation(board, events);
         let mut op = self.random.often_for_channel_3(op);
         let many = op.code == 4 || number_at(board, OWED) > MOST_COUNTS;
-        if many && matches!(op.code, 4 | WORK_OFF) && op.number <= MAY_BE_ASKED {
+        if many && matches!(op.code, 4 | WORK_OFF) && op.number <= REFUSED_ABOVE {
             op.number = op.number.min(MOST_COUNTS);
         }
         op
@@ -132,7 +133,7 @@ impl Sample {
         Ok(())
     }
 
-    /// The numbers at which a call of counts or of time is refused, and those beside them.
+    /// The numbers at which a call of time is refused, and those beside them; and counts about 65,536, above which they were refused until request L6.
     fn limits(&mut self) -> Result<(), String> {
         for (channel, number) in [(0, 65_535), (1, 65_536), (2, 65_537), (0, 65_537), (1, u32::MAX), (1, 0), (3, 65_537)] {
             let board = self.random.board();

@@ -20,7 +20,7 @@ const REFUSALS: [u32; 7] = [3, 9, 10, 11, 12, 13, 14];
 /// No trace is longer but the last, which has as many operations as there may be.
 const MOST_BYTES: usize = 2_000;
 
-/// Operations at the limits of the rules, and just past them.
+/// Operations at the limits of the rules, and just past them; counts have none since request L6.
 const EDGES: [(u8, u8, u32); 12] = [
     (1, 0x43, 255),
     (1, 0x43, 256),

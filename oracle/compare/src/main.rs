@@ -1,5 +1,6 @@
 //! Our timer against the original Rust, operation by operation. oracle/README.md says what is judged by what.
 
+mod board_counts;
 mod board_differences;
 mod board_exhaustive;
 mod board_fields;
@@ -41,6 +42,7 @@ mod trace_judge;
 mod trace_random;
 mod trace_reader;
 mod trace_replay;
+mod turns;
 mod whole_run;
 mod words_off;
 

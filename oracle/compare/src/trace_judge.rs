@@ -4,7 +4,7 @@ use crate::ours::Ours;
 use crate::random::Random;
 use crate::reference::Reference;
 use crate::trace_frame::TraceFrame;
-use crate::trace_random::{often_for_channel_3, trace_of};
+use crate::trace_random::{changed, trace_of};
 use crate::trace_reader::{Operation, MOST_OPERATIONS};
 use crate::trace_replay::{replay, Replayed};
 use crate::words_off::{self, is_bare_read, Pairs, HALF, HELD};
@@ -223,6 +223,8 @@ pub fn case_r() -> Vec<u8> {
 /// So many traces, a third of them sound. Case R and each of its beginnings come first, with every length.
 pub fn run(judge: &mut TraceJudge, traces: u64, seed: u64) {
     let mut random = Random(seed ^ 0x7_2ACE);
+    // What is asked while a trace is made is not in the figures of those that are judged.
+    let mut making = Reference::default();
     let case_r = case_r();
     for len in 0..=case_r.len() {
         judge.ask(&case_r[..len], &mut random);
@@ -234,12 +236,12 @@ pub fn run(judge: &mut TraceJudge, traces: u64, seed: u64) {
     judge.every_length(&case_r);
     judge.every_length(&case_r[..40]);
     for number in [u64::from(MOST_OPERATIONS), u64::from(MOST_OPERATIONS) + 1] {
-        let trace = random.sound_trace(&mut judge.reference, number, often_for_channel_3);
+        let trace = random.sound_trace(&mut making, number, changed);
         judge.ask(&trace, &mut random);
     }
     for turn in 0..traces {
         let length = random.trace_length();
-        let mut trace = random.sound_trace(&mut judge.reference, length, often_for_channel_3);
+        let mut trace = random.sound_trace(&mut making, length, changed);
         for _ in 0..turn % 3 {
             random.damage(&mut trace);
         }

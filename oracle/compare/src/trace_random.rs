@@ -54,12 +54,13 @@ pub fn as_it_is(_: &mut Random, operation: Operation, _: u8) -> Operation {
     operation
 }
 
-/// Every third control byte is for channel 3, and then names the channel.
-pub fn often_for_channel_3(random: &mut Random, operation: Operation, channel: u8) -> Operation {
-    match (operation.code, operation.target) {
-        (1, 0x43) if random.one_in(3) => Operation { number: operation.number | 0xC0 | 2 << channel & 0xE, ..operation },
-        _ => operation,
-    }
+/// Every third control byte is for channel 3, and then names the channel; and every fourth call of counts is by the thousand.
+pub fn changed(random: &mut Random, operation: Operation, channel: u8) -> Operation {
+    let number = match (operation.code, operation.target) {
+        (1, 0x43) if random.one_in(3) => operation.number | 0xC0 | 2 << channel & 0xE,
+        (code, _) => random.often_by_thousands(code, operation.number),
+    };
+    Operation { number, ..operation }
 }
 
 impl Random {

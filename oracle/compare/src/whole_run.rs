@@ -5,8 +5,8 @@ use crate::judge::Judge;
 use crate::ours::Ours;
 use crate::tick_original::TickJudge;
 use crate::trace_judge::TraceJudge;
-use crate::{board_exhaustive, board_operations, board_owed, board_random, board_refusals, operations, trace_exhaustive, trace_judge};
-use crate::{differences, exhaustive, random, refusals, samples, tick_ours, tick_waves};
+use crate::{board_counts, board_exhaustive, board_operations, board_owed, board_random, board_refusals};
+use crate::{differences, exhaustive, operations, random, refusals, samples, tick_ours, tick_waves, trace_exhaustive, trace_judge, turns};
 use std::time::Instant;
 
 /// A trace, and a tick of a record, for so many random operations.
@@ -27,6 +27,7 @@ pub fn run(operations: u64, seed: u64) -> Result<bool, String> {
         channels(&mut ours, operations, seed),
         ticks(operations, seed),
         ticks_of_ours(&mut ours, operations, seed),
+        turns_of_the_original(),
         boards(&mut ours, operations, seed),
         traces(&mut ours, operations, seed),
     ];
@@ -82,10 +83,19 @@ fn ticks_of_ours(ours: &mut Ours, operations: u64, seed: u64) -> Compared {
     Compared { operations: operations + waves.followed, differ: differ + waves.differ }
 }
 
+/// Whether the original's counts go round as the driver of the boards takes it.
+fn turns_of_the_original() -> Compared {
+    let started = Instant::now();
+    let (starts, differ) = turns::run();
+    println!("turns of the original's counts: {starts} starts, {differ} differ ({:.1} s)", started.elapsed().as_secs_f64());
+    Compared { operations: starts, differ }
+}
+
 fn boards(ours: &mut Ours, operations: u64, seed: u64) -> Compared {
     let started = Instant::now();
     let mut judge = BoardJudge::new(ours);
     board_exhaustive::run(&mut judge);
+    board_counts::run(&mut judge);
     board_owed::run(&mut judge);
     board_random::run(&mut judge, operations, seed);
     board_refusals::run(&mut judge);
@@ -93,7 +103,7 @@ fn boards(ours: &mut Ours, operations: u64, seed: u64) -> Compared {
         println!("board {name}: {compared}");
     }
     let refusals: Vec<String> =
-        [1, 2, 3, 4, 5, 6, 7, 8, 15, 16].iter().map(|number| format!("{number}: {}", judge.refusals[*number])).collect();
+        [1, 2, 3, 4, 5, 7, 8, 15, 16].iter().map(|number| format!("{number}: {}", judge.refusals[*number])).collect();
     println!("of these refused with {}", refusals.join(", "));
     println!("of these with an event: {}; ticks worked off: {}", judge.events, judge.ticks);
     println!("words of the reads: {}", judge.pairs.show());
@@ -103,6 +113,7 @@ fn boards(ours: &mut Ours, operations: u64, seed: u64) -> Compared {
     println!("of the time calls with a quotient above 3,000, so without the original's catch_up and run: {}", oracle.not_ticked);
     println!("of the time calls with a panic of the original that docs/DIFFERENCES.md lists: {}", oracle.listed);
     println!("of the port writes through the original's write_u8 too: {}", oracle.whole_writes);
+    println!("of the counts asked of the original 1,000 or more: {}", oracle.thousands.show());
     println!("refused by ours with 101 to 104, or a board not made: {}", judge.refused);
     println!("pit_board_new: {}", judge.made);
     println!("boards: {} operations, {} differ ({:.1} s)", judge.total(), judge.differ, started.elapsed().as_secs_f64());
@@ -121,6 +132,7 @@ fn traces(ours: &mut Ours, operations: u64, seed: u64) -> Compared {
         "of their time calls judged by document 01 alone: {}, without catch_up and run: {}",
         judge.reference.oracle.alone, judge.reference.oracle.not_ticked
     );
+    println!("of their counts 1,000 or more: {}", judge.reference.oracle.thousands.show());
     println!("words of the reads: {}", judge.pairs.show());
     println!(
         "ours with the words taken off, by the rules of before: {} lines, {} of them reads; {} answers, {} of them reads",

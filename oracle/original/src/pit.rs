@@ -11,6 +11,7 @@ pub mod board;
 pub mod board_operation;
 pub mod board_time;
 pub mod control;
+pub mod many_counts;
 pub mod operation;
 pub mod record;
 pub mod remembered;

@@ -138,9 +138,6 @@ impl Baseline {
         if c > 2 {
             return Reply::Refused(2);
         }
-        if number > 65_536 {
-            return Reply::Refused(6);
-        }
         let channel = &mut self.timer.channels[c];
         for _ in 0..number {
             channel.count();

@@ -5,6 +5,7 @@
 //! original owed ticks: those of a time call are put into the board's bytes, and whoever asks sees to it that an operation which must wait for them is not asked here.
 
 use super::board::{self, number_at, record_of, Board};
+use super::many_counts::Thousands;
 use super::operation::wrong_calls;
 use super::remembered::{Asked, Remembered};
 use super::words::{words, COMMAND_PORT, OTHER_HALF};
@@ -16,9 +17,6 @@ pub const EVENT_ROOM: usize = 48;
 const COMMAND: u16 = PIT_COMMAND_REGISTER;
 const FIRST_DATA: u16 = PIT_CHANNEL_0_DATA_PORT;
 const LAST_DATA: u16 = PIT_CHANNEL_2_DATA_PORT;
-
-/// "more than 65,536 counts asked in one call"
-const MOST_COUNTS: u32 = 65_536;
 
 /// Event bytes: `len` of them are lent, the others stand for what lies past them.
 #[derive(Clone, Copy, Debug, PartialEq)]
@@ -77,6 +75,8 @@ pub struct BoardOracle {
     pub listed: u64,
     /// Port writes that went through the original's `write_u8` too.
     pub whole_writes: u64,
+    /// Calls of many counts.
+    pub thousands: Thousands,
 }
 
 impl Default for BoardOracle {
@@ -94,6 +94,7 @@ impl Default for BoardOracle {
             not_ticked: 0,
             listed: 0,
             whole_writes: 0,
+            thousands: Thousands::default(),
         }
     }
 }
@@ -211,11 +212,8 @@ impl BoardOracle {
         if channel > 2 {
             return Err(2);
         }
-        if number > MOST_COUNTS {
-            return Err(6);
-        }
         let channel = &mut self.timer.channels[usize::from(channel)];
-        (0..number).for_each(|_| channel.count());
+        self.thousands.make(channel, number);
         Ok((0, 0, 0))
     }
 
