@@ -1,9 +1,8 @@
 -- What n counts from v come to. In binary (v - n) mod 65,536; in BCD from good digits the packed digits of (v - n) mod 10,000, where
 -- v is what the digits stand for. First for the step alone, then for a channel that counts n times. Assumes nothing.
-use Prim.Native.Nat.{ℕ, zero, suc, _%_, _<_}
+use Prim.Native.Nat.{ℕ, zero, suc, _<_}
 use mathlib.Core.Bool.{true, false}
 use mathlib.Core.Path.{_≡_, refl, sym, ap, _∙_}
-use native.Mathlib.Nat.{mod-mod}
 use native.Mathlib.Numerals.{add-one}
 use native.Mathlib.Omega.{arith}
 use Rattle.numbers.specs.Modulo.{minusMod}
@@ -29,10 +28,6 @@ decimal-times (suc n) v h g =
     rw
     (decimal-times n v h g, decimal-one (packed x) (packed-below x) (good-packed x), w, ← add-one n)
     (ap packed (again 10000 (weight v) n 1 (omega arith)))
-
--- so from good digits 10,000 steps are a turn, and whole turns leave nothing
-pub decimal-turn : (n v : ℕ) → v < 65536 → GoodDigits v → times (n % 10000) decimalStep v ≡ times n decimalStep v
-decimal-turn n v h g = decimal-times (n % 10000) v h g ∙ rw mod-mod (sym (decimal-times n v h g))
 
 -- a count leaves the control byte's part alone, so every count is in one radix
 pub control-kept : (n : ℕ) (c : Channel) → times n count c .control ≡ c .control

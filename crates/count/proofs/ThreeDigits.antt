@@ -1,9 +1,8 @@
--- The packed digits of the numbers below a bound, one after the other, and the one at a place; and the thousands beside three digits. Assumes
--- nothing.
+-- The packed digits of numbers one after the other, and the one at a place; and the thousands beside three digits. Assumes nothing.
 use Prim.Native.Nat.{ℕ, zero, suc, _+_, _*_, _/_, _%_, _<_}
 use mathlib.Core.List.{List, [], _∷_}
 use mathlib.Core.Path.{_≡_, sym, ap, _∙_}
-use native.Mathlib.Nat.{add-zero, add-suc, suc-add, zero-add, le-of-suc-le-suc, not-suc-le-zero}
+use native.Mathlib.Nat.{add-zero, add-suc, suc-add, le-of-suc-le-suc, not-suc-le-zero}
 use native.Mathlib.Omega.{arith}
 use lib.ListN.{getD}
 use Rattle.numbers.specs.Digits.{packed}
@@ -18,11 +17,12 @@ from-at first zero k h = absurd (not-suc-le-zero h)
 from-at first (suc n) zero h = ap packed (sym (add-zero first))
 from-at first (suc n) (suc k) h = from-at (suc first) n k (le-of-suc-le-suc h) ∙ ap packed (suc-add first k ∙ sym (add-suc first k))
 
-abbrev pub packedBelow : ℕ → List ℕ
-packedBelow bound = packedFrom 0 bound
+-- a row of a hundred
+abbrev pub hundredFrom : ℕ → List ℕ
+hundredFrom first = packedFrom first 100
 
-pub packed-at : (bound k : ℕ) → k < bound → getD (packedBelow bound) k 0 ≡ packed k
-packed-at bound k h = from-at 0 bound k h ∙ ap packed (zero-add k)
+pub packed-at : (first k v : ℕ) → first + k ≡ v → v < first + 100 → getD (hundredFrom first) k 0 ≡ packed v
+packed-at first k v at high = from-at first 100 k (omega arith) ∙ ap packed at
 
 -- one division by ten takes off one digit, and the thousands stay apart
 thousands-beside : (a r : ℕ) → a < 10 → r < 1000 → 4096 * a + packed r ≡ packed (1000 * a + r)

@@ -1,4 +1,5 @@
-// That many decimal counts without a step. From four good digits by way of the stored table, from other starts digit by digit.
+// That many decimal counts without a step. From four good digits by way of the stored table, from other starts, and where they are few, digit by
+// digit.
 use crate::digits::digits_of;
 use crate::digits::element_of;
 use crate::lending::many_less;
@@ -9,8 +10,8 @@ ghost use Rattle.numbers.specs.Digits.{GoodDigits, packed};
 ghost use Rattle.numbers.specs.Times.{times};
 ghost use Rattle.count.specs.Step.{decimalStep};
 
-// The table is put together wherever it is used, which takes as long as some fifty steps (docs/PERFORMANCE.md). Fewer counts go digit by digit.
-const TABLE_PAYS_FROM: u32 = 50;
+// Fewer counts than these are made sooner one by one than by way of the table, and sooner still digit by digit: docs/PERFORMANCE.md.
+const FEW: u32 = 25;
 
 // The table has three digits; the thousands stand beside it.
 fn four_digits(value: u16) -> u16
@@ -42,7 +43,7 @@ fn by_digits(element: u16, number: u32) -> u16
 pub(crate) fn decimal_steps(element: u16, number: u32) -> u16
     ensures { λ r. ⌜ r ≡ times number decimalStep element ⌝ }
 {
-    if number < TABLE_PAYS_FROM {
+    if number < FEW {
         return by_digits(element, number);
     }
     if numbers::good_digits(element) {

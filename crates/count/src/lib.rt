@@ -46,7 +46,7 @@ pub fn steps_in(bcd: bool, element: u16, number: u32) -> u16
     }
 }
 
-// Most calls make one count: one step, without the loop.
+// Most calls make one count: one step, without a look at many.
 fn counted_element(bcd: bool, element: u16, number: u32) -> u16
     ensures { λ r. ⌜ r ≡ times number (stepIn bcd) element ⌝ }
 {

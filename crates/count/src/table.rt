@@ -1,10 +1,10 @@
-// The stored table of request L6, and its one use: the packed digits of a number below 1,000.
+// The stored table of request L6: the packed digits of the numbers below 1,000, in ten rows of a hundred. A constant is put together on the stack
+// wherever it is used, and so it is one row of the table and not the whole.
 ghost use mathlib.Core.Path.{_≡_};
 ghost use Prim.Native.Nat.{_<_};
 ghost use Rattle.numbers.specs.Digits.{packed};
 
-// Entry k holds the packed digits of k.
-const THREE_DIGITS: [u16; 1000] = [
+const FROM_000: [u16; 100] = [
     0x000,
     0x001,
     0x002,
@@ -105,6 +105,9 @@ const THREE_DIGITS: [u16; 1000] = [
     0x097,
     0x098,
     0x099,
+];
+
+const FROM_100: [u16; 100] = [
     0x100,
     0x101,
     0x102,
@@ -205,6 +208,9 @@ const THREE_DIGITS: [u16; 1000] = [
     0x197,
     0x198,
     0x199,
+];
+
+const FROM_200: [u16; 100] = [
     0x200,
     0x201,
     0x202,
@@ -305,6 +311,9 @@ const THREE_DIGITS: [u16; 1000] = [
     0x297,
     0x298,
     0x299,
+];
+
+const FROM_300: [u16; 100] = [
     0x300,
     0x301,
     0x302,
@@ -405,6 +414,9 @@ const THREE_DIGITS: [u16; 1000] = [
     0x397,
     0x398,
     0x399,
+];
+
+const FROM_400: [u16; 100] = [
     0x400,
     0x401,
     0x402,
@@ -505,6 +517,9 @@ const THREE_DIGITS: [u16; 1000] = [
     0x497,
     0x498,
     0x499,
+];
+
+const FROM_500: [u16; 100] = [
     0x500,
     0x501,
     0x502,
@@ -605,6 +620,9 @@ const THREE_DIGITS: [u16; 1000] = [
     0x597,
     0x598,
     0x599,
+];
+
+const FROM_600: [u16; 100] = [
     0x600,
     0x601,
     0x602,
@@ -705,6 +723,9 @@ const THREE_DIGITS: [u16; 1000] = [
     0x697,
     0x698,
     0x699,
+];
+
+const FROM_700: [u16; 100] = [
     0x700,
     0x701,
     0x702,
@@ -805,6 +826,9 @@ const THREE_DIGITS: [u16; 1000] = [
     0x797,
     0x798,
     0x799,
+];
+
+const FROM_800: [u16; 100] = [
     0x800,
     0x801,
     0x802,
@@ -905,6 +929,9 @@ const THREE_DIGITS: [u16; 1000] = [
     0x897,
     0x898,
     0x899,
+];
+
+const FROM_900: [u16; 100] = [
     0x900,
     0x901,
     0x902,
@@ -1007,10 +1034,37 @@ const THREE_DIGITS: [u16; 1000] = [
     0x999,
 ];
 
-// The table is put together on the stack wherever it is used, so it is used here alone.
+// Each row is asked for one entry.
 pub(crate) fn three_digits(value: usize) -> u16
     requires { ⌜ value < 1000 ⌝ }
     ensures { λ r. ⌜ r ≡ packed value ⌝ }
 {
-    THREE_DIGITS[value]
+    if value < 100 {
+        return FROM_000[value];
+    }
+    if value < 200 {
+        return FROM_100[value - 100];
+    }
+    if value < 300 {
+        return FROM_200[value - 200];
+    }
+    if value < 400 {
+        return FROM_300[value - 300];
+    }
+    if value < 500 {
+        return FROM_400[value - 400];
+    }
+    if value < 600 {
+        return FROM_500[value - 500];
+    }
+    if value < 700 {
+        return FROM_600[value - 600];
+    }
+    if value < 800 {
+        return FROM_700[value - 700];
+    }
+    if value < 900 {
+        return FROM_800[value - 800];
+    }
+    FROM_900[value - 900]
 }

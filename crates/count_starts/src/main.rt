@@ -37,10 +37,12 @@ fn below(element: u16, bcd: bool) -> u16 {
     element - 1
 }
 
+// Every second start has counted before, to be seen where no count must leave it so.
 fn starting(element: u16, bcd: bool, latched: bool) -> Channel {
     let mut c = Channel::fresh();
     c.control.bcd_mode = bcd;
     c.counter.counting_element = element;
+    c.counter.ticked = element % 2 == 1;
     c.latch.output_latch = OLD_LATCH;
     c.latch.count_is_latched = latched;
     c
@@ -170,6 +172,11 @@ fn main() {
     few(11);
     many(9);
     many(10);
+    many(24);
+    many(25);
+    many(50);
+    many(999);
+    many(6665);
     many(9999);
     many(10000);
     many(10001);
