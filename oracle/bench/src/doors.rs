@@ -1,7 +1,7 @@
 //! Random calls of `pit_board_new` and `pit_board_operation` through two archives. After each call the status and all lent bytes must be
-//! the same, with those before and past them; where the old archive is of before request L3, without the words of reads.
+//! the same, with those before and past them; where the old archive is of before request L3, without the words of reads. One of before request L6 is not asked for more counts than it takes.
 
-use crate::ours::{has_todays_form, has_words, Door, Operation, LENGTH, NEW, OLD, READ};
+use crate::ours::{counts_any, has_todays_form, has_words, Door, Operation, COUNTS, LENGTH, NEW, OLD, READ};
 use std::collections::BTreeMap;
 
 /// The limit of each byte of a record, as docs/ENCODING.md has it; a number's bytes have none.
@@ -18,7 +18,9 @@ const OWED: usize = 107;
 
 const CODES: [u8; 14] = [1, 2, 3, 4, 5, 6, 7, 8, 9, 17, 18, 19, 20, 21];
 /// What `pit_board_operation` can return.
-const STATUSES: [u32; 15] = [0, 1, 2, 3, 4, 5, 6, 7, 8, 15, 16, 101, 102, 103, 104];
+const STATUSES: [u32; 14] = [0, 1, 2, 3, 4, 5, 7, 8, 15, 16, 101, 102, 103, 104];
+/// An archive of before request L6 refuses more counts.
+const MOST_COUNTS_BEFORE: u32 = 65_536;
 
 /// Where the three buffers begin among the bytes, or up to seven later, and how many bytes there are.
 const NAMES: [&str; 3] = ["board", "events", "answer"];
@@ -163,7 +165,7 @@ impl Random {
         board
     }
 
-    fn operation(&mut self, board: &Board, events: usize) -> Operation {
+    fn operation(&mut self, board: &Board, events: usize, most_counts: u32) -> Operation {
         let [warp, owed] = [WARP, OWED].map(|place| number_at(board, place));
         let code = match self.below(16) {
             0 | 1 => self.below(31) as u8,
@@ -191,13 +193,16 @@ impl Random {
         if self.one_in(16) {
             number = self.one_of(&[1, 2, 255, 256, 257, 65_536, 65_537, u32::MAX, any]);
         }
+        if code == COUNTS {
+            number = number.min(most_counts);
+        }
         let inside = self.below(events + 1);
         let place = self.one_of(&[0, 0, 0, inside, inside, events.saturating_sub(1), events, events + 1, usize::MAX, 1 << 32]);
         Operation { place, code, target, number }
     }
 
     /// A call on a board. It may be damaged first, and one call in sixteen lends too little of it, or of the answer.
-    fn call(&mut self, board: Board) -> Call {
+    fn call(&mut self, board: Board, most_counts: u32) -> Call {
         let lengths = [
             if self.one_in(16) { self.below(LENGTH) } else { LENGTH + self.below(24) },
             if self.one_in(2) { 2 + self.below(5) } else { self.below(49) },
@@ -206,7 +211,7 @@ impl Random {
         let function = if self.one_in(32) {
             Function::BoardNew { model: self.one_of(&[0, 0, 1, 1, 2, 255]), divisor: self.divisor() }
         } else {
-            Function::BoardOperation(self.operation(&board, lengths[1]))
+            Function::BoardOperation(self.operation(&board, lengths[1], most_counts))
         };
         let mut bytes = [0; BYTES];
         bytes.chunks_mut(8).for_each(|part| part.copy_from_slice(&self.next().to_le_bytes()[..part.len()]));
@@ -233,12 +238,13 @@ pub fn run(calls: u64, seed: u64) {
     let mut board = random.board();
     let mut statuses = BTreeMap::from(STATUSES.map(|status| (status, 0)));
     let (words, mut words_off) = (has_words(OLD), 0);
+    let most_counts = if counts_any(OLD) { u32::MAX } else { MOST_COUNTS_BEFORE };
     let mut differ = 0;
     for _ in 0..calls {
         if random.one_in(16) {
             board = if random.one_in(2) { random.board() } else { fresh(&mut random) };
         }
-        let call = random.call(board);
+        let call = random.call(board, most_counts);
         let (old, mut new) = (call.through(OLD), call.through(NEW));
         if !words {
             let read;
@@ -261,6 +267,9 @@ pub fn run(calls: u64, seed: u64) {
     }
     if !words {
         println!("the old archive's reads say no words: taken off {words_off} of today's");
+    }
+    if most_counts < u32::MAX {
+        println!("the old archive refuses more than {most_counts} counts: none were asked for");
     }
     println!("{calls} calls, {differ} differ");
     if differ > 0 {

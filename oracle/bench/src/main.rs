@@ -13,14 +13,17 @@ mod ours;
 mod ticks;
 mod workloads;
 
-use measure::{head, medians, print_row, print_two, two_head};
+use measure::{head, medians, print_computed, print_row, print_two, two_head};
 use original::pit::baseline;
+use std::collections::BTreeMap;
 use std::hint::black_box;
-use workloads::Workload;
+use workloads::{Longest, Workload};
 
 /// Room for every replay.
 const ROOM: usize = 262_272;
 const REPETITIONS: usize = 61;
+/// So many counts end where 4,294,967,295 do, in BCD from any start: behind 20,000 counts each 10,000 go round, which ./compare shows of the original.
+const SAME_IN_BCD: u32 = 37_295;
 /// Random calls, and the seed, where none are asked for.
 const CALLS: u64 = 10_000_000;
 const SEED: u64 = 1;
@@ -36,14 +39,17 @@ fn take_words_off(workload: &Workload, answers: &mut [u8]) {
     }
 }
 
+/// What a side leaves of a trace.
+fn left(name: &str, side: Whole, trace: &[u8]) -> Vec<u8> {
+    let mut out = vec![0xA5; ROOM];
+    assert!(side(trace, &mut out).is_some(), "{name}: a sound trace");
+    out
+}
+
 /// A whole trace through some sides, whose bytes must be the same; without the words of reads where the first side has none.
 fn whole<const N: usize>(workload: &Workload, repetitions: usize, sides: [Whole; N], words: bool) -> [f64; N] {
     let trace = &workload.trace[..];
-    let mut outs = sides.map(|side| {
-        let mut out = vec![0xA5; ROOM];
-        assert!(side(trace, &mut out).is_some(), "{}: a sound trace", workload.name);
-        out
-    });
+    let mut outs = sides.map(|side| left(workload.name, side, trace));
     if !words {
         outs[1..].iter_mut().for_each(|out| take_words_off(workload, out));
     }
@@ -56,14 +62,12 @@ fn whole<const N: usize>(workload: &Workload, repetitions: usize, sides: [Whole;
             black_box(side(black_box(trace), out));
         }
     });
-    medians(workload.operations, repetitions, runs.each_mut().map(|run| run as &mut dyn FnMut()))
+    medians(workload.figures, repetitions, runs.each_mut().map(|run| run as &mut dyn FnMut()))
 }
 
 fn everything(repetitions: usize) {
     head("our runner owns the board: answers of a whole trace");
-    for workload in workloads::all() {
-        print_row(workload.name, whole(&workload, repetitions, [ours::answers, baseline::answers], true));
-    }
+    owned(repetitions);
     head("the same with lines printed");
     for workload in workloads::growing() {
         print_row(workload.name, whole(&workload, repetitions, [ours::replay, baseline::replay], true));
@@ -81,6 +85,35 @@ fn everything(repetitions: usize) {
     for single in workloads::singles() {
         print_row(single.all.name, calls::beside_original(&single, repetitions));
     }
+}
+
+fn owned(repetitions: usize) {
+    let mut originals = BTreeMap::new();
+    for workload in workloads::all() {
+        ends_alike(&workload, u32::MAX);
+        let row = whole(&workload, repetitions, [ours::answers, baseline::answers], true);
+        originals.insert(workload.name, row[1]);
+        print_row(workload.name, row);
+    }
+    for Longest { all, stepped } in workloads::longest() {
+        if let Some(row) = stepped {
+            ends_alike(&all, SAME_IN_BCD);
+            let [ours] = whole(&all, repetitions, [ours::answers], true);
+            print_computed(all.name, [ours, originals[row] / 65_536.0 * f64::from(u32::MAX)]);
+        } else {
+            ends_alike(&all, u32::MAX);
+            print_row(all.name, whole(&all, repetitions, [ours::answers, baseline::answers], true));
+        }
+    }
+    println!("a figure after a load of FFFF is for four operations: two bytes, the load cycle and the counts");
+}
+
+/// Both sides must end at the same count. The original may be asked for fewer counts in the place of the most.
+fn ends_alike(workload: &Workload, most: u32) {
+    let name = workload.name;
+    let ours = left(name, ours::answers, &workload.showing(u32::MAX));
+    let original = left(name, baseline::answers, &workload.showing(most));
+    assert!(ours == original, "{name}: the sides end apart");
 }
 
 fn two_archives(repetitions: usize) {
@@ -107,7 +140,9 @@ fn refused_while_owed() -> String {
 }
 
 fn only(name: &str, turns: usize, side: &str) -> Option<()> {
-    let workload = workloads::all().into_iter().find(|workload| workload.name == name)?;
+    // What the original would step for seconds a call is run on our side alone.
+    let longest = workloads::longest().into_iter().filter(|row| side == "ours" || row.stepped.is_none()).map(|row| row.all);
+    let workload = workloads::all().into_iter().chain(longest).find(|workload| workload.name == name)?;
     let run: Whole = if side == "ours" { ours::answers } else { baseline::answers };
     let mut out = vec![0; ROOM];
     for _ in 0..turns {

@@ -72,6 +72,11 @@ pub fn print_row(name: &str, [ours, original]: [f64; 2]) {
     println!("{name:<42} {ours:>10.2} {original:>10.2} {ratio:>7.places$}");
 }
 
+/// A row in which the original's figure is not measured.
+pub fn print_computed(name: &str, [ours, original]: [f64; 2]) {
+    println!("{name:<42} {ours:>10.2} {original:>10.0} {:>7.0e} (the original's computed)", ours / original);
+}
+
 /// Two archives of ours and the original's.
 pub fn two_head(what: &str) {
     println!("\n{what}\n{:<42} {:>10} {:>10} {:>7} {:>10}", "nanoseconds a call, medians", "old", "new", "old/new", "original");

@@ -1,7 +1,8 @@
 //! Our timer behind the functions that it exports, of today's archive and of an old one.
 
-/// The codes of a read, and of working ticks off.
+/// The codes of a read, of counts, and of working ticks off.
 pub const READ: u8 = 2;
+pub const COUNTS: u8 = 4;
 const WORK_OFF: u8 = 9;
 
 /// Bytes of a board.
@@ -117,6 +118,11 @@ pub fn replay(trace: &[u8], out: &mut [u8]) -> Option<usize> {
 pub fn has_words(door: Door) -> bool {
     let answer = Board::fresh(door, 0, 12).call(&mut [], READ, 0x40, 0).expect("a port that is there");
     answer[8] != 0
+}
+
+/// Whether an archive takes any number of counts: request L6. One of before refuses more than 65,536.
+pub fn counts_any(door: Door) -> bool {
+    Board::fresh(door, 0, 12).call(&mut [], COUNTS, 0, 65_537).is_ok()
 }
 
 /// Whether an archive's boards are as long as today's: request L5. One of before writes fewer bytes.

@@ -13,11 +13,13 @@ const DIVISOR: u32 = 12;
 const EVENT_ROOM: usize = 32_768;
 
 /// A row's name, its control byte for channel 0 and its count.
-const ROWS: [(&str, u32, u32); 4] = [
+const ROWS: [(&str, u32, u32); 6] = [
     ("65,536 ticks, mode 2, count 0", 0x34, 0),
     ("65,536 ticks, mode 2, count 18", 0x34, 18),
     ("65,536 ticks, mode 3, count 0", 0x36, 0),
     ("65,536 ticks, mode 3, count 18", 0x36, 18),
+    ("65,536 ticks, mode 2, count 0, BCD", 0x35, 0),
+    ("65,536 ticks, mode 3, count 0, BCD", 0x37, 0),
 ];
 
 /// Each row's name, and the nanoseconds of both sides.

@@ -7,9 +7,22 @@ pub struct Workload {
     pub name: &'static str,
     pub trace: Vec<u8>,
     pub operations: usize,
+    /// How many figures its time is divided by: one an operation, or one for some of them together.
+    pub figures: usize,
 }
 
 impl Workload {
+    /// The same trace with its last three operations a latch and two reads of channel 0, and with a number of counts in the place of the most that there can be. Counts all answer the same, so without
+    /// reads no bytes would tell where they end.
+    pub fn showing(&self, most: u32) -> Vec<u8> {
+        let mut trace = self.trace.clone();
+        let longest = six(4, 0, u32::MAX);
+        trace[16..].chunks_exact_mut(6).filter(|op| **op == longest).for_each(|op| op.copy_from_slice(&six(4, 0, most)));
+        let end = trace.len() - 18;
+        trace[end..].copy_from_slice(&[six(1, 0x43, 0), six(2, 0x40, 0), six(2, 0x40, 0)].concat());
+        trace
+    }
+
     /// Each operation's code, target and number.
     pub fn each(&self) -> impl Iterator<Item = (u8, u16, u32)> + '_ {
         self.trace[16..].chunks_exact(6).map(|six| (six[0], six[1].into(), u32::from_le_bytes([six[2], six[3], six[4], six[5]])))
@@ -37,7 +50,7 @@ fn divided(name: &'static str, divisor: u32, operations: Vec<Six>) -> Workload {
         trace.extend_from_slice(&number.to_le_bytes());
     }
     operations.iter().for_each(|op| trace.extend_from_slice(op));
-    Workload { name, trace, operations: operations.len() }
+    Workload { name, trace, operations: operations.len(), figures: operations.len() }
 }
 
 /// As many operations as asked for, each from its index.
@@ -87,6 +100,12 @@ fn counts(number: usize, each_of: u32, control: u32) -> Vec<Six> {
     [&begun[..], &each(number - begun.len(), |_| six(4, 0, each_of))].concat()
 }
 
+/// Each call of counts from 0xFFFF in BCD, whose digits are bad, with the two bytes and the load cycle that put it there. A figure is for these four operations.
+fn from_bad_digits(name: &'static str, rounds: usize, each_of: u32) -> Workload {
+    let round = [six(1, 0x40, 0xFF), six(1, 0x40, 0xFF), six(5, 0, 0), six(4, 0, each_of)];
+    Workload { figures: rounds, ..workload(name, [&[six(1, 0x43, 0x31)], &round.repeat(rounds)[..]].concat()) }
+}
+
 /// A catch-up in the middle of an instruction and the run at its end, of some ticks each.
 fn times(number: usize, ticks: u32) -> Vec<Six> {
     each(number, |i| if i % 2 == 0 { six(6, 0, ticks / 2) } else { six(7, 0, ticks) })
@@ -134,12 +153,39 @@ pub fn all() -> Vec<Workload> {
         workload("gates", gates(4096)),
         workload("single counts, binary", counts(4096, 1, 0x30)),
         workload("single counts, BCD", counts(4096, 1, 0x31)),
+        workload("2 counts a call, BCD", counts(4096, 2, 0x31)),
+        workload("10 counts a call, BCD", counts(4096, 10, 0x31)),
+        workload("100 counts a call, BCD", counts(4096, 100, 0x31)),
+        workload("1,000 counts a call, BCD", counts(1024, 1_000, 0x31)),
         workload("65,536 counts a call, binary", counts(128, 65_536, 0x30)),
-        workload("65,536 counts a call, BCD", counts(36, 65_536, 0x31)),
+        workload(STEPPED, counts(36, 65_536, 0x31)),
+        from_bad_digits("FFFF loaded, 1 count, BCD", 1000, 1),
+        from_bad_digits(STEPPED_FROM_BAD, 32, 65_536),
         divided("catch-ups and runs that yield no tick", u32::MAX, times(4096, 24)),
         workload("runs of two ticks and their working off", worked_runs(4096, 2)),
         workload("runs of five ticks and their working off", worked_runs(4096, 5)),
         workload("runs of 1,000 ticks and their working off", worked_runs(4096, 1000)),
+    ]
+}
+
+/// The rows by which the original's cost of so many more counts is computed.
+const STEPPED: &str = "65,536 counts a call, BCD";
+const STEPPED_FROM_BAD: &str = "FFFF loaded, 65,536 counts, BCD";
+
+/// As many counts as one call can ask for, beside the original.
+pub struct Longest {
+    pub all: Workload,
+    /// In BCD the original steps, for seconds a call, so that it is not run: the row with 65,536 counts a call in the place of these. In binary its compiler makes one subtraction of all.
+    pub stepped: Option<&'static str>,
+}
+
+/// An archive of before request L6 refuses more than 65,536 counts, so no old archive is asked for these.
+pub fn longest() -> Vec<Longest> {
+    let (binary, bcd) = (counts(128, u32::MAX, 0x30), counts(36, u32::MAX, 0x31));
+    vec![
+        Longest { all: workload("4,294,967,295 counts a call, binary", binary), stepped: None },
+        Longest { all: workload("4,294,967,295 counts a call, BCD", bcd), stepped: Some(STEPPED) },
+        Longest { all: from_bad_digits("FFFF loaded, 4,294,967,295 counts, BCD", 32, u32::MAX), stepped: Some(STEPPED_FROM_BAD) },
     ]
 }
 
@@ -198,6 +244,7 @@ pub fn singles() -> Vec<Single> {
         single("gate", &COUNTS, each(252, |i| six(3, 0, (i % 2) as u32))),
         single("one count", &COUNTS, each(252, |_| six(4, 0, 1))),
         single("one count, BCD", &COUNTS_BCD, each(252, |_| six(4, 0, 1))),
+        single("65,536 counts, BCD", &COUNTS_BCD, each(63, |_| six(4, 0, 65_536))),
         single("load cycle", &COUNTS, each(252, |_| six(5, 0, 0))),
         Single { all: no_tick, begun: 0, calls: 1 },
         single("query: output", &COUNTS, in_turn(17)),
