@@ -8,47 +8,10 @@ use crate::random::Random;
 use original::pit::board::{record_at, Board};
 use original::pit::many_counts::less;
 
-const MOST: u32 = u32::MAX;
-/// About each number at which a count could end elsewhere: where digits borrow, where the radixes go round, and where ours takes another way.
-pub const NUMBERS: [u32; 38] = [
-    0,
-    1,
-    2,
-    3,
-    4,
-    5,
-    6,
-    7,
-    8,
-    9,
-    10,
-    11,
-    12,
-    31,
-    32,
-    33,
-    49,
-    50,
-    51,
-    99,
-    100,
-    101,
-    999,
-    1_000,
-    1_001,
-    6_666,
-    9_999,
-    10_000,
-    10_001,
-    19_999,
-    20_000,
-    65_535,
-    65_536,
-    65_537,
-    131_072,
-    1_000_000,
-    MOST - 1,
-    MOST,
+/// Where digits borrow, where ours takes another way, where the last bad digits become good (6,666 counts from 0xFFFF), and where the radixes go round.
+const MARKS: [u32; 25] = [
+    31, 32, 33, 49, 50, 51, 99, 100, 101, 999, 1_000, 1_001, 6_665, 6_666, 6_667, 9_999, 10_000, 10_001, 19_999, 20_000, 65_535, 65_536,
+    65_537, 131_072, 1_000_000,
 ];
 /// Good digits and bad ones, with zeros and without.
 const STARTS: [u32; 32] = [
@@ -56,6 +19,11 @@ const STARTS: [u32; 32] = [
     0x9000, 0x9998, 0x9999, 0x999A, 0xA000, 0xA9A9, 0xABCD, 0xF000, 0xF0F0, 0xFFFE, 0xFFFF,
 ];
 const RANDOM_STARTS: usize = 100;
+
+/// Few counts, those about the marks, and as many as there can be.
+pub fn numbers() -> impl Iterator<Item = u32> {
+    (0..=12).chain(MARKS).chain([u32::MAX - 1, u32::MAX])
+}
 
 pub fn run(judge: &mut BoardJudge) {
     some_starts(judge);
@@ -76,7 +44,7 @@ fn begun(random: &mut Random, c: u16, element: u32, bcd: u32) -> Board {
 fn some_starts(judge: &mut BoardJudge) {
     let mut random = Random(24);
     let starts: Vec<u32> = STARTS.into_iter().chain((0..RANDOM_STARTS).map(|_| random.next() as u32 & 0xFFFF)).collect();
-    for (element, number) in starts.iter().flat_map(|element| NUMBERS.map(|number| (*element, number))) {
+    for (element, number) in starts.iter().flat_map(|element| numbers().map(move |number| (*element, number))) {
         for (c, ways) in (0..3).flat_map(|c| (0..4).map(move |ways| (c, ways))) {
             let mut board = begun(&mut random, c, element, ways & 1);
             LATCHED.put(&mut board[record_at(c.into())..], ways >> 1);
@@ -88,7 +56,7 @@ fn some_starts(judge: &mut BoardJudge) {
 /// All 65,536 elements with every number, in both radixes, each on some channel.
 fn every_start(judge: &mut BoardJudge) {
     let mut random = Random(27);
-    for (number, bcd) in NUMBERS.iter().flat_map(|number| [(*number, 0), (*number, 1)]).filter(|(number, _)| *number > 0) {
+    for (number, bcd) in numbers().filter(|number| *number > 0).flat_map(|number| [(number, 0), (number, 1)]) {
         let before_the_last = less(bcd == 1, number - 1);
         for element in 0..=0xFFFF {
             let c = random.below(3) as u16;

@@ -1,7 +1,7 @@
 //! Traces of one operation with every code, and numbers at the limits of the rules; heads at theirs; reads and latches in every order; and small programs in every mode, whose reads show
 //! what became of the loads, gates and ticks.
 
-use crate::board_counts::NUMBERS as NUMBERS_OF_COUNTS;
+use crate::board_counts::numbers;
 use crate::random::Random;
 use crate::reference::WORK_OFF;
 use crate::trace_judge::TraceJudge;
@@ -142,7 +142,7 @@ pub fn program(c: u8, mode: u32, access: u32, ways: u32) -> Vec<Operation> {
 fn counting_programs(judge: &mut TraceJudge, random: &mut Random) {
     let starts = [0, 1, 0x0999, 0x1000, 0x1234, 0x9999, 0x000A, 0x00F0, 0xA000, 0xABCD, 0xFFFF];
     let kinds = (0..3u8).flat_map(|c| starts.iter().flat_map(move |start| [(c, *start, 0), (c, *start, 1)]));
-    for ((c, start, bcd), number) in kinds.flat_map(|kind| NUMBERS_OF_COUNTS.iter().map(move |number| (kind, *number))) {
+    for ((c, start, bcd), number) in kinds.flat_map(|kind| numbers().map(move |number| (kind, number))) {
         let (port, counts, read) = (0x40 + c, operation(4, c, number), operation(2, 0x40 + c, 0));
         let operations = [
             operation(1, 0x43, u32::from(c) << 6 | 0x30 | bcd),

@@ -6,8 +6,8 @@ use super::*;
 /// So many counts are always made one by one.
 const STEPPED: u32 = 200_000;
 
-/// After so many counts every run goes round in whole turns. In binary it does from the first count on. In BCD a start with digits above 9 does not, but no start takes more than
-/// 16,665 counts until its digits are decimal. Nothing here takes that on trust: compare/src/turns.rs asks it of the original, from every start.
+/// After so many counts every run goes round in whole turns. In binary it does from the first count on. In BCD a start with digits above 9 does not, but none takes more than 6,666 counts, those from
+/// 0xFFFF, until its digits are decimal. Nothing here takes that on trust: compare/src/turns.rs asks the original, from every start.
 pub const SETTLED: u32 = 20_000;
 
 /// Counts after which a run that has settled is where it was.
