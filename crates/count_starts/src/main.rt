@@ -39,10 +39,11 @@ fn below(element: u16, bcd: bool) -> u16 {
 
 // Every second start has counted before, to be seen where no count must leave it so.
 fn starting(element: u16, bcd: bool, latched: bool) -> Channel {
+    let ticked = element % 2 == 1;
     let mut c = Channel::fresh();
     c.control.bcd_mode = bcd;
     c.counter.counting_element = element;
-    c.counter.ticked = element % 2 == 1;
+    c.counter.ticked = ticked;
     c.latch.output_latch = OLD_LATCH;
     c.latch.count_is_latched = latched;
     c
