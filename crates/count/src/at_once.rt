@@ -1,8 +1,6 @@
 // That many decimal counts without a step. From four good digits by way of the stored table, from other starts, and where they are few, digit by
 // digit.
-use crate::digits::digits_of;
-use crate::digits::element_of;
-use crate::lending::many_less;
+use crate::digits::by_digits;
 use crate::table::three_digits;
 ghost use mathlib.Core.Path.{_≡_};
 ghost use Prim.Native.Nat.{_<_};
@@ -19,8 +17,7 @@ fn four_digits(value: u16) -> u16
     ensures { λ r. ⌜ r ≡ packed value ⌝ }
 {
     let thousands = value / 1000;
-    let rest = (value % 1000) as usize;
-    4096 * thousands + three_digits(rest)
+    4096 * thousands + three_digits(value)
 }
 
 // The turn is 10,000: whole turns leave nothing.
@@ -31,13 +28,6 @@ fn by_table(element: u16, number: u32) -> u16
     let value = numbers::weight(element);
     let taken = (number % 10000) as u16;
     four_digits((value + 10000 - taken) % 10000)
-}
-
-fn by_digits(element: u16, number: u32) -> u16
-    ensures { λ r. ⌜ r ≡ times number decimalStep element ⌝ }
-{
-    let d = digits_of(element);
-    element_of(many_less(d, number))
 }
 
 pub(crate) fn decimal_steps(element: u16, number: u32) -> u16

@@ -1,5 +1,7 @@
 // The decimal count as the school teaches it: four digits, and a borrow that walks up from the ones. docs/DIGITS.md is the page for it.
+use crate::lending::many_less;
 ghost use mathlib.Core.Path.{_≡_};
+ghost use Rattle.numbers.specs.Times.{times};
 ghost use Rattle.count.specs.Step.{decimalStep};
 ghost use Rattle.count.specs.Borrow.{digitsOf, elementOf, afterLending, oneLess};
 ghost use Rattle.count.specs.Inner.{FourBits};
@@ -12,7 +14,7 @@ pub(crate) struct Digits {
 }
 
 // Each byte holds two digits.
-pub(crate) fn digits_of(element: u16) -> Digits
+fn digits_of(element: u16) -> Digits
     ensures { λ r. ⌜ r ≡ digitsOf element ⌝ }
 {
     let high = (element / 256) as u8;
@@ -25,7 +27,7 @@ pub(crate) fn digits_of(element: u16) -> Digits
     }
 }
 
-pub(crate) fn element_of(d: Digits) -> u16
+fn element_of(d: Digits) -> u16
     requires { ⌜ FourBits d ⌝ }
     ensures { λ r. ⌜ r ≡ elementOf d ⌝ }
 {
@@ -74,4 +76,12 @@ pub fn decimal_step(element: u16) -> u16
         return element_of(one_less(d));
     }
     element_of(one_less(d))
+}
+
+// That many steps at once, from any start: the digits are taken apart and put together once.
+pub(crate) fn by_digits(element: u16, number: u32) -> u16
+    ensures { λ r. ⌜ r ≡ times number decimalStep element ⌝ }
+{
+    let d = digits_of(element);
+    element_of(many_less(d, number))
 }

@@ -1,7 +1,7 @@
 // The stored table of request L6: the packed digits of the numbers below 1,000, in ten rows of a hundred. A constant is put together on the stack
 // wherever it is used, and so it is one row of the table and not the whole.
 ghost use mathlib.Core.Path.{_≡_};
-ghost use Prim.Native.Nat.{_<_};
+ghost use Prim.Native.Nat.{_%_};
 ghost use Rattle.numbers.specs.Digits.{packed};
 
 const FROM_000: [u16; 100] = [
@@ -1034,37 +1034,37 @@ const FROM_900: [u16; 100] = [
     0x999,
 ];
 
-// Each row is asked for one entry.
-pub(crate) fn three_digits(value: usize) -> u16
-    requires { ⌜ value < 1000 ⌝ }
-    ensures { λ r. ⌜ r ≡ packed value ⌝ }
+// The last three digits of a number, packed.
+pub(crate) fn three_digits(value: u16) -> u16
+    ensures { λ r. ⌜ r ≡ packed (value % 1000) ⌝ }
 {
-    if value < 100 {
-        return FROM_000[value];
+    let at = (value % 1000) as usize;
+    if at < 100 {
+        return FROM_000[at];
     }
-    if value < 200 {
-        return FROM_100[value - 100];
+    if at < 200 {
+        return FROM_100[at - 100];
     }
-    if value < 300 {
-        return FROM_200[value - 200];
+    if at < 300 {
+        return FROM_200[at - 200];
     }
-    if value < 400 {
-        return FROM_300[value - 300];
+    if at < 400 {
+        return FROM_300[at - 300];
     }
-    if value < 500 {
-        return FROM_400[value - 400];
+    if at < 500 {
+        return FROM_400[at - 400];
     }
-    if value < 600 {
-        return FROM_500[value - 500];
+    if at < 600 {
+        return FROM_500[at - 500];
     }
-    if value < 700 {
-        return FROM_600[value - 600];
+    if at < 700 {
+        return FROM_600[at - 600];
     }
-    if value < 800 {
-        return FROM_700[value - 700];
+    if at < 800 {
+        return FROM_700[at - 700];
     }
-    if value < 900 {
-        return FROM_800[value - 800];
+    if at < 900 {
+        return FROM_800[at - 800];
     }
-    FROM_900[value - 900]
+    FROM_900[at - 900]
 }

@@ -23,7 +23,6 @@ four-digits-spec =
     tie.close
     (tie.spec
     (λ c. search needs)
-    (λ c. search needs)
     (λ c κs. search needs)
     add-result
     (λ c. four (c .before .args .value) _ (search needs) (c .three-digits .ensures)))

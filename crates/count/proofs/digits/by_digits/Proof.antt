@@ -1,4 +1,4 @@
--- `count::at_once::by_digits` meets its contract: many counts at once are as many steps, by `same-counts`. Assumes nothing.
+-- `count::digits::by_digits` meets its contract: many counts at once are as many steps, by `same-counts`. Assumes nothing.
 use Prim.Native.Nat.{ℕ, _<_}
 use mathlib.Core.Path.{_≡_}
 use native.Mathlib.Omega.{arith}
@@ -10,8 +10,8 @@ use Rattle.count.specs.Borrow.{digitsOf, elementOf}
 use Rattle.count.specs.Lending.{manyLess}
 use Rattle.count.specs.Inner.{FourBits}
 use Rattle.count.proofs.Lends.{less-many-bits, same-counts}
-use Rattle.count.proofs.at_once.by_digits.Statement.{statement}
-use Rattle.count.proofs.at_once.by_digits.Tie as tie
+use Rattle.count.proofs.digits.by_digits.Statement.{statement}
+use Rattle.count.proofs.digits.by_digits.Tie as tie
 
 bits : (n e : ℕ) (d left : Digits) → d ≡ digitsOf e → left ≡ manyLess n d → FourBits left
 bits n e d left of less = rw (less, of) (less-many-bits n e)

@@ -1,7 +1,7 @@
--- `count_starts::leap::made_good` is safe and ends: each leap leaves fewer counts. Assumes nothing.
+-- `count_starts::made_good` is safe and ends: each leap leaves fewer counts. Assumes nothing.
 use borrow.Author.Needs.{needs}
-use Rattle.count_starts.proofs.leap.made_good.Statement.{statement}
-use Rattle.count_starts.proofs.leap.made_good.Tie as tie
+use Rattle.count_starts.proofs.made_good.Statement.{statement}
+use Rattle.count_starts.proofs.made_good.Tie as tie
 
 abbrev Inv-loop : tie.InvT-loop
 Inv-loop l₀ l = Unit
