@@ -5,7 +5,7 @@ use mathlib.Core.Path.{_≡_, refl, sym, ap, _∙_, subst}
 use native.Mathlib.Nat.{mod-eq-of-lt}
 use native.Mathlib.Omega.{arith}
 use lib.Dec.{eqb, ltb}
-use borrow.Author.Tests.{ltb-true, ltb-false, eqb-true, eqb-false}
+use borrow.Author.Tests.{ltb-false, eqb-true, eqb-false}
 use Rattle.numbers.specs.Digits.{GoodDigits, weight, packed}
 use Rattle.numbers.specs.Radix.{radixCounts}
 use Rattle.numbers.proofs.Digits.{tested-good, packed-weight, weight-below}

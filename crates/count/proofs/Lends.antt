@@ -2,7 +2,7 @@
 -- says what it then does to a digit that lent. Assumes nothing.
 use Prim.Native.Nat.{ℕ, zero, suc, _+_, _-_, _/_, _%_, _≤_, _<_}
 use mathlib.Core.Bool.{Bool, true, false, cond, _&&_}
-use mathlib.Core.Path.{_≡_, refl, sym, ap, _∙_}
+use mathlib.Core.Path.{_≡_, refl, ap, _∙_}
 use native.Mathlib.Nat.{sub-zero}
 use native.Mathlib.Omega.{arith}
 use lib.Dec.{eqb, ltb}
@@ -11,7 +11,7 @@ use Rattle.numbers.specs.Times.{times}
 use Rattle.numbers.proofs.Digits.{whole}
 use Rattle.count.specs.declared.digits.Digits.{Digits}
 use Rattle.count.specs.Step.{decimalStep}
-use Rattle.count.specs.Borrow.{digitsOf, elementOf, afterLending, afterBorrow, oneLess}
+use Rattle.count.specs.Borrow.{digitsOf, elementOf, afterBorrow, oneLess}
 use Rattle.count.specs.Lending.{leftOf, borrowsOf, byTens, byHundreds, byThousands, manyLess}
 use Rattle.count.specs.ManyCounts.{SameLess, SameCounts}
 use Rattle.count.specs.Inner.{FourBits}

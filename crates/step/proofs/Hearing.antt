@@ -9,7 +9,7 @@ use lib.Dec.{eqb}
 use lib.ListN.{length}
 use borrow.Author.Tests.{eqb-true, eqb-false, ne-eqb}
 use Rattle.numbers.specs.Times.{times}
-use Rattle.refusal.specs.Reply.{Reply, accepted}
+use Rattle.refusal.specs.Reply.{accepted}
 use Rattle.refusal.proofs.Apart.{refused-not}
 use Rattle.channel.specs.declared.Channel.{Channel}
 use Rattle.channel.specs.declared.ControlWord.{ControlWord}
@@ -19,7 +19,6 @@ use Rattle.channel.specs.Record.{withDirty}
 use Rattle.channel.proofs.Pick.{pick-same, pick-holds}
 use Rattle.control.specs.declared.Command.{Command}
 use Rattle.control.specs.declared.Command.the-variants.{Nothing, LatchCount, SetMode, ReadBack}
-use Rattle.control.specs.declared.ReadBackWord.{ReadBackWord}
 use Rattle.control.specs.Control.{names, commandOf}
 use Rattle.count.specs.Count.{count}
 use Rattle.latch.specs.Latching as latch

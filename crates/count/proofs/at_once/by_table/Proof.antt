@@ -1,6 +1,6 @@
 -- `count::at_once::by_table` meets its contract: from good digits that many steps come to `packed` of a difference, by `decimal-times`. Assumes
 -- nothing.
-use Prim.Native.Nat.{_+_, _-_, _%_, _≤_, _<_}
+use Prim.Native.Nat.{_+_, _-_, _%_, _<_}
 use mathlib.Core.Path.{_≡_, sym, ap, _∙_}
 use native.Mathlib.Omega.{arith}
 use borrow.Author.Needs.{needs}
