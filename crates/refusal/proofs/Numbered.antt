@@ -6,15 +6,15 @@ use mathlib.Core.Bool.{false}
 use lib.Dec.{eqb, ltb}
 use lib.ListN.{getD}
 use Rattle.refusal.specs.declared.Refusal.{Refusal}
-use Rattle.refusal.specs.declared.Refusal.the-variants.{PortUnknown, ChannelAbove2, DivisorZero, TicksBelowWarp, RemainderTooLarge, PlacePastEnd, NoRoom, TraceEnds, SettingsCount, TooManyOperations, UnknownCode, BytesAfter, RuleBroken, TooManyTicks, TicksOwed}
+use Rattle.refusal.specs.declared.Refusal.the-variants.{PortUnknown, ChannelAbove2, DivisorZero, TicksBelowWarp, RemainderTooLarge, PlacePastEnd, NoRoom, TraceEnds, SettingsCount, TooManyOperations, UnknownCode, BytesAfter, RuleBroken, TooManyTicks, TicksOwed, CheckpointCount, CheckpointWrong}
 use Rattle.refusal.specs.Refusal.{refusalNumber}
 use Rattle.refusal.proofs.Apart.{apart-by}
 
--- no refusal has the number 0, 6, or one above 16; some refusal stands there too
+-- no refusal has the number 0, 6, or one above 18; some refusal stands there too
 abbrev pub refusalNumbered : ℕ → Refusal
 refusalNumbered number =
     getD
-    (PortUnknown ∷ PortUnknown ∷ ChannelAbove2 ∷ DivisorZero ∷ TicksBelowWarp ∷ RemainderTooLarge ∷ PlacePastEnd ∷ PlacePastEnd ∷ NoRoom ∷ TraceEnds ∷ SettingsCount ∷ TooManyOperations ∷ UnknownCode ∷ BytesAfter ∷ RuleBroken ∷ TooManyTicks ∷ TicksOwed ∷ [])
+    (PortUnknown ∷ PortUnknown ∷ ChannelAbove2 ∷ DivisorZero ∷ TicksBelowWarp ∷ RemainderTooLarge ∷ PlacePastEnd ∷ PlacePastEnd ∷ NoRoom ∷ TraceEnds ∷ SettingsCount ∷ TooManyOperations ∷ UnknownCode ∷ BytesAfter ∷ RuleBroken ∷ TooManyTicks ∷ TicksOwed ∷ CheckpointCount ∷ CheckpointWrong ∷ [])
     number
     RuleBroken
 
@@ -36,6 +36,8 @@ in-table BytesAfter = (refl, refl, refl)
 in-table RuleBroken = (refl, refl, refl)
 in-table TooManyTicks = (refl, refl, refl)
 in-table TicksOwed = (refl, refl, refl)
+in-table CheckpointCount = (refl, refl, refl)
+in-table CheckpointWrong = (refl, refl, refl)
 
 pub number-set : (r : Refusal) → eqb (refusalNumber r) 0 ≡ false
 number-set r = in-table r .0

@@ -1,7 +1,7 @@
--- Document 01, "Refusal numbers": the number of each refusal; request L1 adds two, and L6 takes one away.
+-- Document 01, "Refusal numbers": the number of each refusal; request L1 adds two, L6 takes one away, and L7 adds two.
 use Prim.Native.Nat.{ℕ}
 use Rattle.refusal.specs.declared.Refusal.{Refusal}
-use Rattle.refusal.specs.declared.Refusal.the-variants.{PortUnknown, ChannelAbove2, DivisorZero, TicksBelowWarp, RemainderTooLarge, PlacePastEnd, NoRoom, TraceEnds, SettingsCount, TooManyOperations, UnknownCode, BytesAfter, RuleBroken, TooManyTicks, TicksOwed}
+use Rattle.refusal.specs.declared.Refusal.the-variants.{PortUnknown, ChannelAbove2, DivisorZero, TicksBelowWarp, RemainderTooLarge, PlacePastEnd, NoRoom, TraceEnds, SettingsCount, TooManyOperations, UnknownCode, BytesAfter, RuleBroken, TooManyTicks, TicksOwed, CheckpointCount, CheckpointWrong}
 
 abbrev pub refusalNumber : Refusal → ℕ
 -- "port not 0x40 to 0x43"
@@ -27,7 +27,7 @@ refusalNumber SettingsCount = 10
 refusalNumber TooManyOperations = 11
 -- "operation code not 1 to 8"; "12 now means not 1 to 9" (02, L1)
 refusalNumber UnknownCode = 12
--- "bytes after the last operation"
+-- "bytes after the last operation"; "13 means bytes after the last section present" (02, L7)
 refusalNumber BytesAfter = 13
 -- "a trace's model, target or number breaks its rule"
 refusalNumber RuleBroken = 14
@@ -35,3 +35,7 @@ refusalNumber RuleBroken = 14
 refusalNumber TooManyTicks = 15
 -- "16 for a port write, gate, reset, catch-up or run while ticks are owed" (02, L1)
 refusalNumber TicksOwed = 16
+-- "17 for a checkpoint count other than the operations divided by 256, rounded down" (02, L7)
+refusalNumber CheckpointCount = 17
+-- "18 for the first checkpoint whose bytes differ, unreadable ones too", and "for a replay from one that is missing or unreadable" (02, L7)
+refusalNumber CheckpointWrong = 18

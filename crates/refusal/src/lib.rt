@@ -1,4 +1,4 @@
-// Why a call or a trace is refused: document 01's table of refusal numbers, and those that request L1 of document 02 adds. The table's 6 is gone:
+// Why a call or a trace is refused: document 01's table of refusal numbers, and those that requests L1 and L7 of document 02 add. The table's 6 is gone:
 // request L6 lifts the limit that it stood for.
 ghost use mathlib.Core.Path.{_≡_};
 ghost use Rattle.refusal.specs.Refusal.{refusalNumber};
@@ -19,6 +19,8 @@ pub enum Refusal {
     RuleBroken,
     TooManyTicks,
     TicksOwed,
+    CheckpointCount,
+    CheckpointWrong,
 }
 
 impl Refusal {
@@ -42,6 +44,8 @@ impl Refusal {
             Refusal::RuleBroken => 14,
             Refusal::TooManyTicks => 15,
             Refusal::TicksOwed => 16,
+            Refusal::CheckpointCount => 17,
+            Refusal::CheckpointWrong => 18,
         }
     }
 }

@@ -1,8 +1,9 @@
--- A trace that can be written down is read back from its bytes, so that equal bytes are of equal traces. Assumes nothing.
-use Prim.Native.Nat.{ℕ, suc, _+_, _<_, _≤_}
+-- A trace that can be written down is read back from its bytes, with a sound section three behind them or with none, so that equal bytes are of equal traces. Assumes
+-- nothing.
+use Prim.Native.Nat.{ℕ, suc, _+_, _*_, _<_, _≤_}
 use mathlib.Core.Path.{_≡_, refl, sym, subst}
 use mathlib.Core.Bool.{true, false}
-use mathlib.Core.List.{List, [], _∷_, _++_, append-assoc}
+use mathlib.Core.List.{List, [], _∷_, _++_, append-assoc, append-nil}
 use native.Mathlib.Omega.{arith}
 use lib.ListN.{length, getD, length-append}
 use lib.Seq.{getD-append-add}
@@ -21,6 +22,7 @@ use Rattle.channel.proofs.Models.{model-back}
 use Rattle.trace.specs.Head.{readHead}
 use Rattle.trace.specs.Rule.{brokenRule}
 use Rattle.trace.specs.Operation.{operationOf, placeOf, operationAt}
+use Rattle.trace.specs.Section.{sectionThree}
 use Rattle.trace.specs.Trace.{Trace, operationsFrom, readTrace}
 use Rattle.trace.specs.Bytes.{six, operationBytes, operationsBytes, traceBytes, Holds, AllHold, Writable}
 
@@ -88,22 +90,51 @@ six-long (Run given) = refl
 six-long Reset = refl
 six-long (WorkOff stated) = refl
 
-operations-back : (front : List ℕ) (i : ℕ) (os : List Operation) → length front ≡ placeOf i → AllHold os
-    → operationsFrom (front ++ operationsBytes os) i (length os) ≡ sound os
-operations-back front i [] e h =
-    let whole = length-append front [] in rw (le-ltb (placeOf i) (length (front ++ [])) (omega arith)) refl
-operations-back front i (o ∷ os) e h =
+operations-long : (os : List Operation) → length (operationsBytes os) ≡ 6 * length os
+operations-long [] = refl
+operations-long (o ∷ os) =
+    let rest = operations-long os in
+    let first = six-long o in
+    simp (length-append) (omega arith)
+
+operations-back : (front : List ℕ) (i : ℕ) (os : List Operation) (rest : List ℕ) → length front ≡ placeOf i → AllHold os
+    → operationsFrom (front ++ (operationsBytes os ++ rest)) i (length os) ≡ sound os
+operations-back front i [] rest e h = refl
+operations-back front i (o ∷ os) rest e h =
     let longer = length-append front (operationBytes o) in
     let six = six-long o in
-    rw (operation-back front (operationsBytes os) i o e (h .0))
-    (rw (sym (append-assoc front (operationBytes o) (operationsBytes os)))
-    (rw (operations-back (front ++ operationBytes o) (suc i) os (omega arith) (h .1)) refl))
+    rw (append-assoc (operationBytes o) (operationsBytes os) rest)
+    (rw (operation-back front (operationsBytes os ++ rest) i o e (h .0))
+    (rw (sym (append-assoc front (operationBytes o) (operationsBytes os ++ rest)))
+    (rw (operations-back (front ++ operationBytes o) (suc i) os rest (omega arith) (h .1)) refl)))
 
-pub read-back : (t : Trace) → Writable t → readTrace (traceBytes t) ≡ sound t
-unfolding readTrace traceBytes
-read-back t w =
-    rw (head-back (t .divisor) (t .model) (length (t .operations)) (operationsBytes (t .operations)) (w .divisor-above) (w .divisor-fits) (w .not-too-many))
-    (rw (operations-back (headBytes (t .divisor) (t .model) (length (t .operations))) 0 (t .operations) refl (w .numbers-fit)) refl)
+module _ (t : Trace) (w : Writable t) where
+  -- where section three begins
+  pub trace-long : length (traceBytes t) ≡ placeOf (length (t .operations))
+  unfolding traceBytes
+  trace-long =
+      let all = operations-long (t .operations) in
+      simp (length-append) (omega arith)
+
+  pub read-back-with : (section : List ℕ) → sectionThree (traceBytes t ++ section) (length (t .operations)) ≡ sound tt
+      → readTrace (traceBytes t ++ section) ≡ sound t
+  unfolding readTrace traceBytes
+  read-back-with section kept =
+      let head = headBytes (t .divisor) (t .model) (length (t .operations)) in
+      let grouped : (head ++ operationsBytes (t .operations)) ++ section ≡ head ++ (operationsBytes (t .operations) ++ section)
+      = append-assoc head (operationsBytes (t .operations)) section in
+      rw (head-back (t .divisor) (t .model) (length (t .operations)) (operationsBytes (t .operations) ++ section) (w .divisor-above) (w .divisor-fits) (w .not-too-many))
+      (rw (operations-back head 0 (t .operations) section refl (w .numbers-fit)) (rw kept refl))
+
+  none-behind : sectionThree (traceBytes t) (length (t .operations)) ≡ sound tt
+  unfolding sectionThree
+  none-behind = let long = trace-long in simp (le-ltb (placeOf (length (t .operations))) (length (traceBytes t)) (omega arith))
+
+  pub read-back : readTrace (traceBytes t) ≡ sound t
+  read-back =
+      let none : traceBytes t ++ [] ≡ traceBytes t = append-nil (traceBytes t) in
+      subst (λ (bytes : List ℕ). readTrace bytes ≡ sound t) none
+      (read-back-with [] (subst (λ (bytes : List ℕ). sectionThree bytes (length (t .operations)) ≡ sound tt) (sym none) none-behind))
 
 pub bytes-alike : (t u : Trace) → Writable t → Writable u → traceBytes t ≡ traceBytes u → t ≡ u
 bytes-alike t u v w e = cc (read-back t v, read-back u w)

@@ -12,9 +12,10 @@ use Rattle.channel.proofs.Pick.{pick-holds, pick-knowing}
 use Rattle.trace.specs.declared.head.Head.{Head}
 use Rattle.trace.specs.Judgement.{Judgement}
 use Rattle.numbers.specs.Number.{numberAt}
-use Rattle.trace.specs.Sizes.{longestTrace}
+use Rattle.trace.specs.Sizes.{checkpointsOf, countSize, longestTrace}
 use Rattle.trace.specs.Head.{readHead}
 use Rattle.trace.specs.Operation.{placeOf, operationAt}
+use Rattle.trace.specs.Section.{sectionEnd, sectionThree}
 use Rattle.trace.specs.Trace.{operationsFrom, afterHead, readTrace}
 use Rattle.trace.proofs.Values.{OfSound, after-same}
 
@@ -46,12 +47,28 @@ operation-alike a b s i h =
     simp (le-ltb (length a) (placeOf i + 6) (omega arith), le-ltb (length b) (placeOf i + 6) (omega arith), s .alike (placeOf i) (omega arith), s .alike (placeOf i + 1) (omega arith), number-alike a b s (placeOf i + 2) (omega arith))
 
 operations-alike : (a b : List ℕ) → Alike a b → (i n : ℕ) → i + n ≤ 4096 → operationsFrom a i n ≡ operationsFrom b i n
-operations-alike a b s i zero h =
-    let first-long = s .first-long in
-    let second-long = s .second-long in
-    simp (lt-ltb (placeOf i) (length a) (omega arith), lt-ltb (placeOf i) (length b) (omega arith))
+operations-alike a b s i zero h = refl
 operations-alike a b s i (suc n) h =
     simp (operation-alike a b s i (omega arith), operations-alike a b s (suc i) n (omega arith))
+
+-- both are longer than section three, so what comes behind it is too much in both
+section-alike : (a b : List ℕ) → Alike a b → (n : ℕ) → n ≤ 4096 → sectionThree a n ≡ sectionThree b n
+unfolding sectionThree
+section-alike a b s n h =
+    let first-long = s .first-long in
+    let second-long = s .second-long in
+    let few : checkpointsOf n ≤ 16 = omega arith in
+    simp (
+      lt-ltb (placeOf n) (length a) (omega arith),
+      lt-ltb (placeOf n) (length b) (omega arith),
+      le-ltb (length a) (placeOf n + countSize) (omega arith),
+      le-ltb (length b) (placeOf n + countSize) (omega arith),
+      number-alike a b s (placeOf n) (omega arith),
+      le-ltb (length a) (sectionEnd n) (omega arith),
+      le-ltb (length b) (sectionEnd n) (omega arith),
+      lt-ltb (sectionEnd n) (length a) (omega arith),
+      lt-ltb (sectionEnd n) (length b) (omega arith),
+    )
 
 -- a sound head says that there are at most 4,096 operations
 abbrev pub Few : Judgement Head → Type 0
@@ -72,7 +89,7 @@ unfolding readTrace
 trace-alike a b s =
     rw (head-alike a b s)
     (after-same _ (readHead b) (afterHead a) (afterHead b) (few b)
-    (λ h l. rw (operations-alike a b s 0 (h .operations) (omega arith)) refl))
+    (λ h l. rw (operations-alike a b s 0 (h .operations) (omega arith)) (rw (section-alike a b s (h .operations) l) refl)))
 
 by-length : (bytes : List ℕ) (n : ℕ) → longestTrace + 1 ≤ n → (longer : Bool) → ltb n (length bytes) ≡ longer → readTrace (take n bytes) ≡ readTrace bytes
 by-length bytes n h true e =

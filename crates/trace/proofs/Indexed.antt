@@ -3,16 +3,15 @@ use Prim.Native.Nat.{ℕ, zero, suc, _+_, _<_}
 use mathlib.Core.Path.{_≡_, sym, subst}
 use mathlib.Core.List.{List, _∷_}
 use native.Mathlib.Nat.{zero-add, add-zero, add-suc, suc-add, not-suc-le-zero, le-of-suc-le-suc}
-use lib.Dec.{ltb}
 use lib.ListN.{length, getD}
-use Rattle.channel.proofs.Pick.{pick-holds}
 use Rattle.trace.specs.declared.head.Head.{Head}
 use Rattle.trace.specs.declared.operation.Operation.{Operation}
 use Rattle.trace.specs.Judgement.{sound, andThen}
 use Rattle.trace.specs.Head.{readHead}
-use Rattle.trace.specs.Operation.{placeOf, operationAt}
+use Rattle.trace.specs.Operation.{operationAt}
+use Rattle.trace.specs.Section.{sectionThree}
 use Rattle.trace.specs.Trace.{Trace, before, operationsFrom, traceOf, afterHead, readTrace}
-use Rattle.trace.proofs.Values.{OfSound, itself, through}
+use Rattle.trace.proofs.Values.{OfSound, itself, through, anyhow}
 use Rattle.trace.proofs.Turns.{Counts, as-many}
 
 -- the indices from i on give these operations
@@ -24,7 +23,7 @@ one-more bytes i o os first rest zero l d = rw (add-zero i) first
 one-more bytes i o os first rest (suc k) l d = rw (add-suc i k) (rw (sym (suc-add i k)) (rest k (le-of-suc-le-suc l) d))
 
 all-give : (bytes : List ℕ) (i n : ℕ) → OfSound (Gives bytes i) (operationsFrom bytes i n)
-all-give bytes i zero = pick-holds (OfSound (Gives bytes i)) (ltb (placeOf i) (length bytes)) _ _ tt (λ k l d. absurd (not-suc-le-zero l))
+all-give bytes i zero = λ k l d. absurd (not-suc-le-zero l)
 all-give bytes i (suc n) =
     through (λ (o : Operation). operationAt bytes i ≡ sound o) (Gives bytes i) (operationAt bytes i) (before (operationsFrom bytes (suc i) n))
     (itself (operationAt bytes i))
@@ -45,5 +44,6 @@ at-index bytes t e k l d =
     let Whole : Trace → Type 0 = λ t. Gives bytes 0 (t .operations) in
     let whole : OfSound Whole (andThen (readHead bytes) (afterHead bytes)) =
     through (λ (h : Head). readHead bytes ≡ sound h) Whole (readHead bytes) (afterHead bytes) (itself (readHead bytes))
-    (λ h u. through (Gives bytes 0) Whole (operationsFrom bytes 0 (h .operations)) (λ os. sound (traceOf h os)) (all-give bytes 0 (h .operations)) (λ os gives. gives)) in
+    (λ h u. through (Gives bytes 0) Whole (operationsFrom bytes 0 (h .operations)) (λ os. andThen (sectionThree bytes (h .operations)) (λ there. sound (traceOf h os))) (all-give bytes 0 (h .operations))
+    (λ os gives. through (λ (u : Unit). Unit) Whole (sectionThree bytes (h .operations)) (λ there. sound (traceOf h os)) (anyhow (sectionThree bytes (h .operations))) (λ there none. gives))) in
     subst (λ (i : ℕ). operationAt bytes i ≡ sound (getD (t .operations) k d)) (zero-add k) (subst (OfSound Whole) e whole k l d)

@@ -6,6 +6,7 @@ pub mod Indexed
 pub mod Back
 pub mod Enough
 pub mod Deciding
+pub mod Parts
 pub mod Refusals
 pub mod Apart
 pub mod Sound

@@ -1,12 +1,14 @@
--- A sound trace has one form only: its bytes are those of what was read, which can be written down; and what is written is bytes. Assumes nothing.
+-- A sound trace has one form only: its bytes are those of what was read, which can be written down, and behind them nothing or a section three; and what is written is
+-- bytes. Assumes nothing.
 use Prim.Native.Nat.{ℕ, zero, suc, _+_, _*_, _/_, _%_, _<_, _≤_}
-use mathlib.Core.Path.{_≡_, refl, sym, ap, subst}
+use mathlib.Core.Path.{_≡_, refl, sym, ap, subst, _∙_}
 use mathlib.Core.Bool.{not}
-use mathlib.Core.List.{List, [], _∷_, _++_}
+use mathlib.Core.List.{List, [], _∷_, _++_, append-assoc}
 use mathlib.Core.Logic.{inl, inr}
+use native.Mathlib.Nat.{zero-add, add-zero}
 use native.Mathlib.Omega.{arith}
 use lib.Dec.{ltb, eqb}
-use lib.ListN.{length, getD, drop, drop-of-length-le}
+use lib.ListN.{length, getD, drop, drop-of-length-le, length-drop}
 use lib.Seq.{drop-cons}
 use borrow.Author.Tests.{ltb-false, eqb-true, eqb-false, not-false}
 use Rattle.numbers.specs.Flags.{flagNumber}
@@ -17,16 +19,19 @@ use Rattle.trace.specs.declared.rule.Rule.the-variants.{None, Code, Targ
 use Rattle.trace.specs.declared.head.Head.{Head}
 use Rattle.trace.specs.declared.operation.Operation.{Operation}
 use Rattle.trace.specs.declared.operation.Operation.the-variants.{WritePort, ReadPort, SetChannelGate, Counts, LoadCycle, CatchUp, Run, Reset, WorkOff}
-use Rattle.trace.specs.Judgement.{sound, andThen}
+use Rattle.trace.specs.Judgement.{Judgement, sound, andThen}
 use Rattle.numbers.specs.Number.{numberAt}
 use Rattle.channel.specs.Models.{modelNumber}
 use Rattle.channel.proofs.Models.{model-number-back}
 use Rattle.trace.specs.Head.{readHead}
 use Rattle.trace.specs.Rule.{codeBroken, targetBroken, numberBroken}
 use Rattle.trace.specs.Operation.{operationOf, judgedBy, placeOf, operationAt}
+use Rattle.board_encoding.specs.Places.{boardSize}
+use Rattle.trace.specs.Sizes.{checkpointsOf}
+use Rattle.trace.specs.Section.{sectionEnd, sectionThree}
 use Rattle.trace.specs.Trace.{Trace, before, operationsFrom, traceOf, afterHead, readTrace}
 use Rattle.trace.specs.Refusals.{TargetRule, NumberRule}
-use Rattle.trace.specs.Bytes.{AllBytes, six, operationBytes, operationsBytes, traceBytes, Holds, AllHold, Writable}
+use Rattle.trace.specs.Bytes.{AllBytes, six, operationBytes, operationsBytes, traceBytes, behind, SectionForm, missing, counted, Holds, AllHold, Writable}
 use Rattle.trace.proofs.Values.{OfSound, through}
 use Rattle.trace.proofs.Refusals.{code-kept, target-kept, number-kept}
 
@@ -120,19 +125,22 @@ operation-form bytes all i =
     by-rules code target number known (target-kept code target (known .1) .0 t) (number-kept code number .0 n) (byte-at bytes all (p + 1)) (number-fits bytes all (p + 2)) in
     (written .0, rw (written .1) (six-form bytes all p (placeOf (suc i)) (omega arith) (omega (arith, ltb-false (length bytes) (p + 6) long))))))))
 
--- the operations that were read from an index on, as many as were asked for, have all the bytes from there on
+-- the operations that were read from an index on, as many as were asked for, have the bytes from there up to what is behind them
 abbrev AllWritten : List ℕ → ℕ → ℕ → List Operation → Type 0
-AllWritten bytes i n os = AllHold os × (length os ≡ n) × (operationsBytes os ≡ drop (placeOf i) bytes)
+AllWritten bytes i n os = AllHold os × (length os ≡ n) × (operationsBytes os ++ drop (placeOf (i + n)) bytes ≡ drop (placeOf i) bytes)
 
 operations-form : (bytes : List ℕ) → AllBytes bytes → (i n : ℕ) → OfSound (AllWritten bytes i n) (operationsFrom bytes i n)
-operations-form bytes all i zero =
-    pick-knowing (OfSound (AllWritten bytes i 0)) (ltb (placeOf i) (length bytes)) _ _ (λ more. tt)
-    (λ none. (tt, refl, sym (drop-of-length-le bytes (ltb-false (placeOf i) (length bytes) none))))
+operations-form bytes all i zero = (tt, refl, ap (λ (p : ℕ). drop (placeOf p) bytes) (add-zero i))
 operations-form bytes all i (suc n) =
+    let next : suc i + n ≡ i + suc n = omega arith in
     through (Written bytes i) (AllWritten bytes i (suc n)) (operationAt bytes i) (before (operationsFrom bytes (suc i) n)) (operation-form bytes all i)
     (λ o first.
     through (AllWritten bytes (suc i) n) (AllWritten bytes i (suc n)) (operationsFrom bytes (suc i) n) (λ os. sound (o ∷ os)) (operations-form bytes all (suc i) n)
-    (λ os rest. ((first .0, rest .0), ap suc (rest .1), rw (rest .2) (first .1))))
+    (λ os rest. (
+      (first .0, rest .0),
+      ap suc (rest .1),
+      append-assoc (operationBytes o) (operationsBytes os) _ ∙ ap (λ (l : List ℕ). operationBytes o ++ l) (ap (λ (p : ℕ). operationsBytes os ++ drop (placeOf p) bytes) (sym next) ∙ rest .2) ∙ first .1,
+    )))
 
 -- the head that was read has the first 16 bytes
 abbrev HeadWritten : List ℕ → Head → Type 0
@@ -161,17 +169,42 @@ head-form bytes all =
       rw (model-number-back (at 8) (ltb-false 1 (at 8) model)) whole,
     )))))))))
 
-pub only-form : (bytes : List ℕ) → AllBytes bytes → (t : Trace) → readTrace bytes ≡ sound t → Writable t × (traceBytes t ≡ bytes)
+-- what stands behind the operations of a sound trace: nothing, or the count with its boards
+section-form : (bytes : List ℕ) → AllBytes bytes → (n : ℕ) → OfSound (λ (u : Unit). SectionForm n (behind bytes n)) (sectionThree bytes n)
+unfolding sectionThree
+section-form bytes all n =
+    let P : Judgement Unit → Type 0 = OfSound (λ (u : Unit). SectionForm n (behind bytes n)) in
+    let p = placeOf n in
+    let count = checkpointsOf n in
+    pick-knowing P (ltb p (length bytes)) _ _
+    (λ begun.
+    pick-knowing P (ltb (length bytes) (p + 4)) _ _ (λ short. tt) (λ there.
+    pick-knowing P (not (eqb (numberAt bytes p) count)) _ _ (λ broken. tt) (λ kept.
+    pick-knowing P (ltb (length bytes) (sectionEnd n)) _ _ (λ short. tt) (λ boards.
+    pick-knowing P (ltb (sectionEnd n) (length bytes)) _ _ (λ more. tt) (λ none.
+    let least : p + 4 ≤ length bytes = ltb-false (length bytes) (p + 4) there in
+    let enough : sectionEnd n ≤ length bytes = ltb-false (length bytes) (sectionEnd n) boards in
+    let most : length bytes ≤ sectionEnd n = ltb-false (sectionEnd n) (length bytes) none in
+    let number : numberAt bytes p ≡ count = eqb-true (numberAt bytes p) count (not-false _ kept) in
+    let long : length (drop (p + 4) bytes) ≡ boardSize * count = simp length-drop (omega arith) in
+    subst (SectionForm n) (subst (λ (k : ℕ). fourBytes k ++ drop (p + 4) bytes ≡ drop p bytes) number (four-form bytes all p least))
+    (counted (drop (p + 4) bytes) long))))))
+    (λ not-begun. subst (SectionForm n) (sym (drop-of-length-le bytes (ltb-false p (length bytes) not-begun))) missing)
+
+pub only-form : (bytes : List ℕ) → AllBytes bytes → (t : Trace) → readTrace bytes ≡ sound t
+    → Writable t × (traceBytes t ++ behind bytes (length (t .operations)) ≡ bytes) × SectionForm (length (t .operations)) (behind bytes (length (t .operations)))
 unfolding readTrace traceBytes
 only-form bytes all t e =
-    let P : Trace → Type 0 = λ t. Writable t × (traceBytes t ≡ bytes) in
+    let P : Trace → Type 0 = λ t. Writable t × (traceBytes t ++ behind bytes (length (t .operations)) ≡ bytes) × SectionForm (length (t .operations)) (behind bytes (length (t .operations))) in
     let whole : OfSound P (andThen (readHead bytes) (afterHead bytes)) =
     through (HeadWritten bytes) P (readHead bytes) (afterHead bytes) (head-form bytes all)
-    (λ h head. through (AllWritten bytes 0 (h .operations)) P (operationsFrom bytes 0 (h .operations)) (λ os. sound (traceOf h os)) (operations-form bytes all 0 (h .operations))
-    (λ os rest. (
+    (λ h head. through (AllWritten bytes 0 (h .operations)) P (operationsFrom bytes 0 (h .operations)) _ (operations-form bytes all 0 (h .operations))
+    (λ os rest. through (λ (u : Unit). SectionForm (h .operations) (behind bytes (h .operations))) P (sectionThree bytes (h .operations)) (λ there. sound (traceOf h os)) (section-form bytes all (h .operations))
+    (λ there form. (
       record { divisor-above = head .0; divisor-fits = head .1; not-too-many = subst (λ (n : ℕ). n ≤ 4096) (sym (rest .1)) (head .2); numbers-fit = rest .0 },
-      rw (rest .1) (rw (rest .2) (head .3)),
-    ))) in
+      rw (rest .1) (append-assoc (fourBytes 2 ++ fourBytes (h .divisor) ++ fourBytes (modelNumber (h .model)) ++ fourBytes (h .operations)) (operationsBytes os) _ ∙ ap (λ (l : List ℕ). fourBytes 2 ++ fourBytes (h .divisor) ++ fourBytes (modelNumber (h .model)) ++ fourBytes (h .operations) ++ l) (ap (λ (p : ℕ). operationsBytes os ++ drop (placeOf p) bytes) (sym (zero-add (h .operations))) ∙ rest .2) ∙ head .3),
+      rw (rest .1) form,
+    )))) in
     subst (OfSound P) e whole
 
 -- what is written is bytes

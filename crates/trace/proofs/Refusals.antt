@@ -1,5 +1,5 @@
 -- Demand 1 for traces: the number and the place of a refusal are those of the first row whose condition holds, both ways. Assumes nothing.
-use Prim.Native.Nat.{ℕ, zero, suc, _+_, _≤_}
+use Prim.Native.Nat.{ℕ, zero, suc, _+_, _<_, _≤_}
 use mathlib.Core.Path.{_≡_, sym, _∙_}
 use mathlib.Core.Bool.{Bool, true, false, not, cond, _||_}
 use mathlib.Core.List.{List, [], _∷_, _++_}
@@ -14,13 +14,16 @@ use Rattle.channel.proofs.Pick.{of-pick}
 use Rattle.trace.specs.declared.rule.Rule.{Rule}
 use Rattle.trace.specs.declared.operation.Operation.{Operation}
 use Rattle.trace.specs.declared.head.Head.{Head}
-use Rattle.trace.specs.Judgement.{Judgement, Faulted, refusedBy, present, andThen}
+use Rattle.trace.specs.Judgement.{Judgement, Faulted, refusedBy, sound, present, andThen}
 use Rattle.numbers.specs.Number.{numberAt}
 use Rattle.trace.specs.Head.{headOf, readHead}
 use Rattle.trace.specs.Rule.{codeBroken, targetBroken, numberBroken}
 use Rattle.trace.specs.Operation.{placeOf, operationOf, operationAt, judgedBy}
+use Rattle.trace.specs.Sizes.{checkpointsOf}
+use Rattle.trace.specs.Section.{sectionEnd, sectionThree}
 use Rattle.trace.specs.Trace.{before, operationsFrom, traceOf, afterHead, readTrace}
-use Rattle.trace.specs.Refusals.{Row, endsBefore, settingsCount, divisorZero, modelAbove1, tooManyOperations, unknownCode, TargetRule, targetNotZero, NumberRule, numberBreaksRule, bytesAfter, operationOrder, operationsOrder, order, FirstAt}
+use Rattle.trace.specs.Refusals.{Row, endsBefore, settingsCount, divisorZero, modelAbove1, tooManyOperations, unknownCode, TargetRule, targetNotZero, NumberRule, numberBreaksRule, checkpointCount, bytesAfter, operationOrder, operationsOrder, sectionOrder, order, FirstAt}
+use Rattle.trace.proofs.Parts.{then-decided, only-decided}
 use Rattle.trace.proofs.Deciding.{Decided, accepts, tested, made-of, one-of, at-most, is, free, neither, guarded, breaks}
 
 pub code-kept : (code : ℕ) → (codeBroken code ≡ false) ↔ ((1 ≤ code) × (code ≤ 9))
@@ -79,8 +82,7 @@ operation-decided bytes i rest rows f d =
     made-of rest (λ os. operationOf code target given ∷ os) rows f d)))))
 
 operations-decided : (bytes : List ℕ) (i n : ℕ) (f : Faulted) → Decided (operationsFrom bytes i n) (operationsOrder bytes i n) f
-operations-decided bytes i zero f =
-    tested (ltb (placeOf i) (length bytes)) (bytesAfter bytes (placeOf i)) [] _ f (below (placeOf i) (length bytes)) (λ none. accepts [] f)
+operations-decided bytes i zero f = accepts [] f
 operations-decided bytes i (suc n) f =
     operation-decided bytes i (operationsFrom bytes (suc i) n) (operationsOrder bytes (suc i) n) f (operations-decided bytes (suc i) n f)
 
@@ -92,16 +94,28 @@ field-decided bytes at r broken rest after f means others =
     tested (ltb (length bytes) (at + 4)) (endsBefore bytes (at + 4)) _ _ f (below (length bytes) (at + 4))
     (λ there. tested broken r rest after f means (λ kept. others))
 
+section-decided : (bytes : List ℕ) (n : ℕ) (f : Faulted) → Decided (sectionThree bytes n) (sectionOrder bytes n) f
+unfolding sectionThree
+section-decided bytes n f =
+    let long = length bytes in
+    let place = placeOf n in
+    only-decided (place < long) (ltb place long) _ tt _ f (below place long)
+    (field-decided bytes place (checkpointCount bytes n) (not (eqb (numberAt bytes place) (checkpointsOf n))) _ _ f (breaks _ (is (numberAt bytes place) (checkpointsOf n)))
+    (tested (ltb long (sectionEnd n)) (endsBefore bytes (sectionEnd n)) _ _ f (below long (sectionEnd n)) (λ there.
+    tested (ltb (sectionEnd n) long) (bytesAfter bytes (sectionEnd n)) [] _ f (below (sectionEnd n) long) (λ none. accepts tt f))))
+
 trace-decided : (bytes : List ℕ) (f : Faulted) → Decided (readTrace bytes) (order bytes) f
 unfolding readTrace readHead
 trace-decided bytes f =
     let at = numberAt bytes in
+    let behind : (os : List Operation) → Decided (andThen (sectionThree bytes (at 12)) (λ there. sound (traceOf (headOf bytes) os))) (sectionOrder bytes (at 12)) f
+    = λ os. made-of (sectionThree bytes (at 12)) (λ there. traceOf (headOf bytes) os) _ f (section-decided bytes (at 12) f) in
     simp (of-pick (λ (j : Judgement Head). andThen j (afterHead bytes)))
     (field-decided bytes 0 (settingsCount bytes) (not (eqb (at 0) 2)) _ _ f (breaks _ (is (at 0) 2))
     (field-decided bytes 4 (divisorZero bytes) (eqb (at 4) 0) _ _ f (equal (at 4) 0)
     (field-decided bytes 8 (modelAbove1 bytes) (ltb 1 (at 8)) _ _ f (below 1 (at 8))
     (field-decided bytes 12 (tooManyOperations bytes) (ltb 4096 (at 12)) _ _ f (below 4096 (at 12))
-    (made-of (operationsFrom bytes 0 (at 12)) (traceOf (headOf bytes)) _ f (operations-decided bytes 0 (at 12) f))))))
+    (then-decided (operationsFrom bytes 0 (at 12)) _ (operationsOrder bytes 0 (at 12)) _ f (operations-decided bytes 0 (at 12)) behind)))))
 
 -- both directions, for all bytes, every number and every place
 pub trace-refused-exactly : (bytes : List ℕ) (f : Faulted) → (readTrace bytes ≡ refusedBy f) ↔ FirstAt (order bytes) f

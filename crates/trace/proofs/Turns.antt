@@ -1,19 +1,18 @@
--- The operations of a trace, one after another: what the first says of all of them, and how many there are. Assumes nothing.
+-- The operations of a trace, one after another: what the first says of all of them, how many there are, and the whole trace in its parts. Assumes nothing.
 use Prim.Native.Nat.{ℕ, zero, suc, _-_, _<_}
 use mathlib.Core.Path.{_≡_, refl, ap}
 use mathlib.Core.List.{List}
 use native.Mathlib.Omega.{arith}
-use lib.Dec.{ltb}
 use lib.ListN.{length}
-use Rattle.channel.proofs.Pick.{pick-holds}
 use Rattle.trace.specs.declared.head.Head.{Head}
 use Rattle.trace.specs.declared.operation.Operation.{Operation}
 use Rattle.trace.specs.Judgement.{Judgement, Faulted, refusedBy, sound, andThen}
 use Rattle.trace.specs.Head.{readHead}
-use Rattle.trace.specs.Operation.{placeOf, operationAt}
-use Rattle.trace.specs.Trace.{ending, before, operationsFrom, traceOf, afterHead, readTrace}
+use Rattle.trace.specs.Operation.{operationAt}
+use Rattle.trace.specs.Section.{sectionThree}
+use Rattle.trace.specs.Trace.{before, operationsFrom, traceOf, afterHead, readTrace}
 use Rattle.trace.specs.Answer.{summary}
-use Rattle.trace.specs.Inner.{soundness}
+use Rattle.trace.specs.Inner.{soundness, behindHead}
 
 -- where k is below n, one operation is left, and those after it
 left-one : (k n : ℕ) → k < n → n - k ≡ suc (n - suc k)
@@ -31,8 +30,8 @@ pub stops : (bytes : List ℕ) (k n : ℕ) (f : Faulted) → k < n → operation
     → soundness (operationsFrom bytes k (n - k)) ≡ refusedBy f
 stops bytes k n f h e = rw (left-one k n h) (rw e refl)
 
-pub at-end : (bytes : List ℕ) (k n : ℕ) → k ≡ n → soundness (operationsFrom bytes k (n - k)) ≡ soundness (ending bytes (placeOf n))
-at-end bytes k n e = let none : n - k ≡ zero = omega arith in rw none (rw e refl)
+pub at-end : (bytes : List ℕ) (k n : ℕ) → k ≡ n → soundness (operationsFrom bytes k (n - k)) ≡ sound tt
+at-end bytes k n e = let none : n - k ≡ zero = omega arith in rw none refl
 
 -- a judgement of as many operations as are asked for
 abbrev pub Counts : ℕ → Judgement (List Operation) → Type 0
@@ -45,21 +44,22 @@ one-more n (sound o) (refusedBy f) h = tt
 one-more n (sound o) (sound os) h = ap suc h
 
 pub as-many : (bytes : List ℕ) (index n : ℕ) → Counts n (operationsFrom bytes index n)
-as-many bytes index zero = pick-holds (Counts 0) (ltb (placeOf index) (length bytes)) _ _ tt refl
+as-many bytes index zero = refl
 as-many bytes index (suc n) = one-more n (operationAt bytes index) (operationsFrom bytes (suc index) n) (as-many bytes (suc index) n)
 
-summed : (h : Head) (j : Judgement (List Operation)) → Counts (h .operations) j
-    → summary (andThen j (λ os. sound (traceOf h os))) ≡ andThen (soundness j) (λ u. sound h)
-summed h (refusedBy f) e = refl
-summed h (sound os) e = ap (λ (n : ℕ). sound (record { divisor = h .divisor; model = h .model; operations = n })) e
+summed : (h : Head) (j : Judgement (List Operation)) (section : Judgement Unit) → Counts (h .operations) j
+    → summary (andThen j (λ os. andThen section (λ there. sound (traceOf h os))))
+    ≡ andThen (andThen (soundness j) (λ all. section)) (λ u. sound h)
+summed h (refusedBy f) section e = refl
+summed h (sound os) (refusedBy f) e = refl
+summed h (sound os) (sound there) e = ap (λ (n : ℕ). sound (record { divisor = h .divisor; model = h .model; operations = n })) e
 
 head-first : (bytes : List ℕ) (j : Judgement Head)
-    → summary (andThen j (afterHead bytes)) ≡ andThen j (λ h. andThen (soundness (operationsFrom bytes 0 (h .operations))) (λ u. sound h))
+    → summary (andThen j (afterHead bytes)) ≡ andThen j (λ h. andThen (behindHead bytes (h .operations)) (λ u. sound h))
 head-first bytes (refusedBy f) = refl
-head-first bytes (sound h) = summed h (operationsFrom bytes 0 (h .operations)) (as-many bytes 0 (h .operations))
+head-first bytes (sound h) = summed h (operationsFrom bytes 0 (h .operations)) (sectionThree bytes (h .operations)) (as-many bytes 0 (h .operations))
 
--- a trace is judged by its head, and then by its operations
-pub in-turn : (bytes : List ℕ)
-    → summary (readTrace bytes) ≡ andThen (readHead bytes) (λ h. andThen (soundness (operationsFrom bytes 0 (h .operations))) (λ u. sound h))
+-- a trace is judged by its head, then by its operations, then by what follows them
+pub in-turn : (bytes : List ℕ) → summary (readTrace bytes) ≡ andThen (readHead bytes) (λ h. andThen (behindHead bytes (h .operations)) (λ u. sound h))
 unfolding readTrace
 in-turn bytes = head-first bytes (readHead bytes)

@@ -22,6 +22,11 @@ pub itself : {A : Type 0} (j : Judgement A) → OfSound (λ (a : A). j ≡ sound
 itself (refusedBy f) = tt
 itself (sound value) = refl
 
+-- .. of which nothing need be known
+pub anyhow : {A : Type 0} (j : Judgement A) → OfSound (λ (a : A). Unit) j
+anyhow (refusedBy f) = tt
+anyhow (sound value) = tt
+
 pub through : {A B : Type 0} (P : A → Type 0) (Q : B → Type 0) (j : Judgement A) (after : A → Judgement B) → OfSound P j
     → ((a : A) → P a → OfSound Q (after a)) → OfSound Q (andThen j after)
 through P Q (refusedBy f) after h step = tt

@@ -1,13 +1,16 @@
--- Document 01, "Recorded traces": the bytes of a list of operations. No function of the code makes them yet.
-use Prim.Native.Nat.{ℕ, _<_, _≤_}
+-- Document 01, "Recorded traces", and document 02, L7: the bytes of a trace, with section three behind them where there is one.
+use Prim.Native.Nat.{ℕ, _*_, _<_, _≤_}
 use mathlib.Core.List.{List, [], _∷_, _++_}
-use lib.ListN.{length}
+use mathlib.Core.Path.{_≡_}
+use lib.ListN.{length, drop}
 use Rattle.numbers.specs.Flags.{flagNumber}
 use Rattle.numbers.specs.Little.{fourBytes}
 use Rattle.channel.specs.Models.{modelNumber}
 use Rattle.trace.specs.declared.operation.Operation.{Operation}
 use Rattle.trace.specs.declared.operation.Operation.the-variants.{WritePort, ReadPort, SetChannelGate, Counts, LoadCycle, CatchUp, Run, Reset, WorkOff}
-use Rattle.trace.specs.Sizes.{mostOperations}
+use Rattle.board_encoding.specs.Places.{boardSize}
+use Rattle.trace.specs.Sizes.{mostOperations, checkpointsOf}
+use Rattle.trace.specs.Operation.{placeOf}
 use Rattle.trace.specs.Trace.{Trace}
 
 -- every number of a list is a byte. What a program reads is: its type says so
@@ -42,6 +45,15 @@ unfoldable pub traceBytes : Trace → List ℕ
 traceBytes t =
     fourBytes 2 ++ fourBytes (t .divisor) ++ fourBytes (modelNumber (t .model)) ++ fourBytes (length (t .operations))
     ++ operationsBytes (t .operations)
+
+-- what stands behind the last of so many operations
+abbrev pub behind : List ℕ → ℕ → List ℕ
+behind bytes operations = drop (placeOf operations) bytes
+
+-- "a count, then the whole board as it stands after each 256 operations" (02, L7), or nothing: what can stand there, whatever the boards say
+pub data SectionForm (operations : ℕ) : List ℕ → Type 0 where
+  missing : SectionForm operations []
+  counted : (boards : List ℕ) → length boards ≡ boardSize * checkpointsOf operations → SectionForm operations (fourBytes (checkpointsOf operations) ++ boards)
 
 -- numbers that the six bytes can hold. Every operation of a program is one: its fields' types say so
 abbrev pub Holds : Operation → Type 0

@@ -3,10 +3,12 @@ use Prim.Native.Nat.{ℕ}
 use mathlib.Core.List.{List, []}
 use mathlib.Core.Path.{_≡_}
 use Rattle.trace.specs.declared.operation.Operation.{Operation}
-use Rattle.trace.specs.declared.judging.Found.{Found}
-use Rattle.trace.specs.declared.judging.Found.the-variants as found
+use Rattle.trace.specs.declared.section.Found.{Found}
+use Rattle.trace.specs.declared.section.Found.the-variants as found
 use Rattle.trace.specs.Judgement.{Judgement, refusedBy, sound, andThen}
 use Rattle.trace.specs.Answer.{faultOf}
+use Rattle.trace.specs.Section.{sectionThree}
+use Rattle.trace.specs.Trace.{operationsFrom}
 
 -- a code that is none of the first four
 abbrev pub NoneOfFour : ℕ → Type 0
@@ -25,3 +27,7 @@ soundness j = andThen j (λ value. sound tt)
 abbrev pub operationsOf : Judgement (List Operation) → List Operation
 operationsOf (refusedBy f) = []
 operationsOf (sound os) = os
+
+-- whether there is a fault behind the head
+abbrev pub behindHead : List ℕ → ℕ → Judgement Unit
+behindHead bytes operations = andThen (soundness (operationsFrom bytes 0 operations)) (λ all. sectionThree bytes operations)

@@ -3,6 +3,7 @@ pub mod Judgement
 pub mod Head
 pub mod Rule
 pub mod Operation
+pub mod Section
 pub mod Trace
 pub mod Answer
 pub mod Inner

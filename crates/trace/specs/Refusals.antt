@@ -1,13 +1,15 @@
--- Document 01, "Refusal numbers" and "Recorded traces": the table's conditions for a trace, each with its place, in the order in which they are tested.
+-- Document 01, "Refusal numbers" and "Recorded traces", and document 02, L7: the table's conditions for a trace, each with its place, in the order in which they are
+-- tested.
 use Prim.Native.Nat.{ℕ, zero, suc, _+_, _<_, _≤_}
-use mathlib.Core.List.{List, [], _∷_, _++_}
+use mathlib.Core.List.{List, [], _∷_, _++_, map}
 use mathlib.Core.Logic.{_⊎_}
 use mathlib.Core.Path.{_≡_}
 use lib.ListN.{length, getD}
 use Rattle.numbers.specs.Number.{numberAt}
 use Rattle.trace.specs.Judgement.{Faulted, faultAt}
-use Rattle.trace.specs.Sizes.{operationSize, mostOperations}
+use Rattle.trace.specs.Sizes.{operationSize, mostOperations, checkpointsOf, countSize}
 use Rattle.trace.specs.Operation.{placeOf}
+use Rattle.trace.specs.Section.{sectionEnd}
 
 -- a number of the table, "P the field's offset", and its "Given exactly when"
 pub record Row : Type 1 where
@@ -54,7 +56,12 @@ NumberRule code number = ((code ≡ 2) ⊎ ((code ≡ 5) ⊎ (code ≡ 8)) → n
 abbrev pub numberBreaksRule : List ℕ → ℕ → Row
 numberBreaksRule bytes place = record { fault = faultAt 14 (place + 2); condition = NumberRule (getD bytes place 0) (numberAt bytes (place + 2)) → ⊥ }
 
--- 13: "bytes after the last operation"; P is "first extra byte for 13"
+-- 17: "a checkpoint count other than the operations divided by 256, rounded down" (02, L7)
+abbrev pub checkpointCount : List ℕ → ℕ → Row
+checkpointCount bytes operations =
+    record { fault = faultAt 17 (placeOf operations); condition = numberAt bytes (placeOf operations) ≡ checkpointsOf operations → ⊥ }
+
+-- 13: "bytes after the last section present" (02, L7); P is "first extra byte for 13"
 abbrev pub bytesAfter : List ℕ → ℕ → Row
 bytesAfter bytes place = record { fault = faultAt 13 place; condition = place < length bytes }
 
@@ -69,14 +76,25 @@ abbrev pub operationOrder : List ℕ → ℕ → List Row
 operationOrder bytes place =
     endsBefore bytes (place + operationSize) ∷ unknownCode bytes place ∷ targetNotZero bytes place ∷ numberBreaksRule bytes place ∷ []
 
--- the operations from an index on, as many as are left, and what follows the last
+-- the operations from an index on, as many as are left
 abbrev pub operationsOrder : List ℕ → ℕ → ℕ → List Row
-operationsOrder bytes index zero = bytesAfter bytes (placeOf index) ∷ []
+operationsOrder bytes index zero = []
 operationsOrder bytes index (suc left) = operationOrder bytes (placeOf index) ++ operationsOrder bytes (suc index) left
+
+-- a condition that counts only where something else holds
+abbrev pub only : Type 0 → Row → Row
+only P r = record { fault = r .fault; condition = P × r .condition }
+
+-- "The section may be missing" (02, L7). Where it is begun: "9 covers an unfinished section", 17 before the boards, 13 behind them
+abbrev pub sectionOrder : List ℕ → ℕ → List Row
+sectionOrder bytes operations =
+    map (only (placeOf operations < length bytes))
+    (endsBefore bytes (placeOf operations + countSize) ∷ checkpointCount bytes operations ∷ endsBefore bytes (sectionEnd operations)
+    ∷ bytesAfter bytes (sectionEnd operations) ∷ [])
 
 -- all that a trace is tested for, from the front
 abbrev pub order : List ℕ → List Row
-order bytes = headOrder bytes ++ operationsOrder bytes 0 (numberAt bytes 12)
+order bytes = headOrder bytes ++ operationsOrder bytes 0 (numberAt bytes 12) ++ sectionOrder bytes (numberAt bytes 12)
 
 -- the first fault whose condition holds: it holds, and none before it does
 abbrev pub FirstAt : List Row → Faulted → Type 0

@@ -1,34 +1,14 @@
-// A whole trace: its head, its operations, and nothing after them.
-use crate::Fault;
+// A whole trace: its head, its operations, and the form of what follows them.
 use crate::head::Judged;
 use crate::head::read_head;
 use crate::operation::OperationJudged;
 use crate::operation::operation_at;
-use crate::operation::place_of;
-use refusal::Refusal;
+use crate::section::Found;
+use crate::section::section_three;
 ghost use mathlib.Core.Path.{_≡_};
-ghost use Rattle.trace.specs.Trace.{ending, operationsFrom, readTrace};
+ghost use Rattle.trace.specs.Trace.{operationsFrom, readTrace};
 ghost use Rattle.trace.specs.Answer.{headJudged, summary};
-ghost use Rattle.trace.specs.Inner.{faultJudged, soundness};
-
-// The first fault, if there is one.
-enum Found {
-    Fault(Fault),
-    None,
-}
-
-// What follows the last operation, whose end is at the place. Refusal 13.
-fn ending(bytes: &[u8], place: usize) -> Found
-    ensures { λ r. ⌜ faultJudged r ≡ soundness (ending (now (bytes .entry)) place) ⌝ }
-{
-    if place < bytes.len() {
-        return Found::Fault(Fault {
-            refusal: Refusal::BytesAfter,
-            place,
-        });
-    }
-    Found::None
-}
+ghost use Rattle.trace.specs.Inner.{faultJudged, soundness, behindHead};
 
 fn operations(bytes: &[u8], number: u32) -> Found
     ensures { λ r. ⌜ faultJudged r ≡ soundness (operationsFrom (now (bytes .entry)) 0 number) ⌝ }
@@ -44,7 +24,18 @@ fn operations(bytes: &[u8], number: u32) -> Found
             }
         }
     }
-    ending(bytes, place_of(number))
+    Found::None
+}
+
+// The operations, and section three behind them.
+fn behind_head(bytes: &[u8], number: u32) -> Found
+    ensures { λ r. ⌜ faultJudged r ≡ behindHead (now (bytes .entry)) number ⌝ }
+{
+    let found = operations(bytes, number);
+    match found {
+        Found::Fault(fault) => Found::Fault(fault),
+        Found::None => section_three(bytes, number),
+    }
 }
 
 // What the head says, of a trace that is sound to its end.
@@ -55,7 +46,7 @@ pub fn judge(bytes: &[u8]) -> Judged
     let Judged::Sound(head) = read else {
         return read;
     };
-    let found = operations(bytes, head.operations);
+    let found = behind_head(bytes, head.operations);
     match found {
         Found::Fault(fault) => Judged::Refused(fault),
         Found::None => Judged::Sound(head),

@@ -1,16 +1,18 @@
 // Recorded traces: which bytes are one, and the operations that stand in it.
 //
-// The form is checked from the front in three parts: the head (head.rt), each operation (operation.rt, by the rules of rule.rt) and what follows the
-// last one (judging.rt).
+// The form is checked from the front in three parts: the head (head.rt), each operation (operation.rt, by the rules of rule.rt) and the checkpoints behind the
+// last one, if there are any (section.rt). judging.rt puts them together.
 pub mod head;
 mod judging;
 pub mod operation;
 pub mod rule;
+pub mod section;
 
 pub use head::read_head;
 pub use judging::judge;
 pub use operation::operation_at;
 pub use operation::operation_in;
+use board_encoding::BOARD_SIZE;
 use refusal::Refusal;
 
 // The settings and the operation count, four numbers.
@@ -21,7 +23,16 @@ pub const OPERATION_SIZE: usize = 1 + 1 + 4;
 
 pub const MOST_OPERATIONS: u32 = 4096;
 
-pub const LONGEST_TRACE: usize = HEAD_SIZE + OPERATION_SIZE * (MOST_OPERATIONS as usize);
+// After so many operations the board is kept.
+pub const CHECKPOINT_EVERY: u32 = 256;
+
+// How many checkpoints there are, a number.
+pub const COUNT_SIZE: usize = 4;
+
+// All operations, and what follows them.
+pub const OPERATIONS_END: usize = HEAD_SIZE + OPERATION_SIZE * (MOST_OPERATIONS as usize);
+
+pub const LONGEST_TRACE: usize = OPERATIONS_END + COUNT_SIZE + BOARD_SIZE * ((MOST_OPERATIONS / CHECKPOINT_EVERY) as usize);
 
 // Why a trace is refused, and where: at the place of the field that breaks its rule, at the whole length where bytes are missing, at the first byte
 // too many.

@@ -63,7 +63,7 @@ fn operation_of(code: u8, target: u8, number: u32) -> Operation
 }
 
 // The operations stand one after another behind the head.
-pub(crate) fn place_of(index: u32) -> usize
+pub fn place_of(index: u32) -> usize
     ensures { λ r. ⌜ r ≡ placeOf index ⌝ }
 {
     HEAD_SIZE + OPERATION_SIZE * (index as usize)

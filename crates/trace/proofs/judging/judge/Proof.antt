@@ -14,13 +14,13 @@ returns-2 : tie.Need-returns-2
 returns-2 c =
     let at-found = c .before .before .before in
     let at-read = at-found .before .before in
-    simp (in-turn, sym (at-read .before .before .read-head .ensures) ∙ ap headJudged (at-read .read .given .1), sym (at-found .operations .ensures) ∙ ap faultJudged (c .before .found .given .1))
+    simp (in-turn, sym (at-read .before .before .read-head .ensures) ∙ ap headJudged (at-read .read .given .1), sym (at-found .behind-head .ensures) ∙ ap faultJudged (c .before .found .given .1))
 
 returns-3 : tie.Need-returns-3
 returns-3 c =
     let at-found = c .before .before in
     let at-read = at-found .before .before in
-    simp (in-turn, sym (at-read .before .before .read-head .ensures) ∙ ap headJudged (at-read .read .given .1), sym (at-found .operations .ensures) ∙ ap faultJudged (c .enum-told2 .given .1))
+    simp (in-turn, sym (at-read .before .before .read-head .ensures) ∙ ap headJudged (at-read .read .given .1), sym (at-found .behind-head .ensures) ∙ ap faultJudged (c .enum-told2 .given .1))
 
 pub judge-spec : {M : Type 1} → statement M
 judge-spec =

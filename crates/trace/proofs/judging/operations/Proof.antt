@@ -4,7 +4,7 @@ use mathlib.Core.Path.{_≡_, sym, ap, _∙_}
 use native.Mathlib.Numerals.{add-one}
 use native.Mathlib.Omega.{arith}
 use borrow.Author.Needs.{needs}
-use Rattle.trace.specs.Trace.{ending, operationsFrom}
+use Rattle.trace.specs.Trace.{operationsFrom}
 use Rattle.trace.specs.Answer.{operationJudged}
 use Rattle.trace.specs.Inner.{soundness}
 use Rattle.trace.proofs.Turns.{goes-on, stops, at-end}
@@ -46,10 +46,10 @@ returns c =
 
 returns-2 : tie.Need-returns-2 Inv-loop μ-loop
 returns-2 c =
-    let a = c .before .before .before .before .before .args in
-    let l = c .before .before .before .loop in
-    let e : l .k ≡ a .number = omega (arith, c .before .before .loop-test .left) in
-    c .ending .ensures ∙ ap (λ place. soundness (ending (a .bytes .now) place)) (c .before .place-of .ensures) ∙ sym (at-end (a .bytes .now) (l .k) (a .number) e) ∙ l .inv .2
+    let l = c .before .loop in
+    let a = c .before .before .before .args in
+    let e : l .k ≡ a .number = omega (arith, c .loop-test .left) in
+    sym (at-end (a .bytes .now) (l .k) (a .number) e) ∙ l .inv .2
 
 pub operations-spec : {M : Type 1} → statement M
 operations-spec =
@@ -61,4 +61,4 @@ operations-spec =
     (λ c κs. search needs) (λ c. search needs) (λ c. search needs) loop-less
     loop-again
     (λ c. search needs) returns
-    (λ c κs. search needs) (λ c κs. search needs) returns-2)
+    returns-2)
