@@ -1,19 +1,24 @@
 -- Not for readers: how the work on a board in lent bytes is divided. The part of the board that an operation is about says nothing new of the operation: proofs/Part.antt
 -- shows that nothing else is meant than the step of the board. What is left in bytes is what `making` (Called.antt) says.
 use Prim.Native.Nat.{ℕ, _<_}
-use mathlib.Core.Bool.{Bool, cond}
+use mathlib.Core.Bool.{Bool, false, cond}
 use mathlib.Core.List.{List}
 use mathlib.Core.Path.{_≡_}
 use lib.Dec.{ltb}
+use lib.ListN.{length}
 use Rattle.refusal.specs.declared.Refusal.the-variants.{ChannelAbove2}
 use Rattle.refusal.specs.Reply.{accepted}
 use Rattle.channel.specs.declared.PitType.{PitType}
+use Rattle.channel.specs.declared.PitType.the-variants.{Model8253}
 use Rattle.channel.specs.declared.queries.DirtyAnswer.{DirtyAnswer}
 use Rattle.channel.specs.Queries as channel
 use Rattle.board.specs.declared.Board.{Board}
 use Rattle.board.specs.Board.{channelAt, withChannel}
 use Rattle.board.specs.Outcome.{Value, Outcome, outputState, countValue, retriggers, dirtyMarks, timerAccum}
 use Rattle.board.specs.Queries.{getTimerAccum}
+use Rattle.board.specs.Making.{fresh}
+use Rattle.board_encoding.specs.Places.{boardSize}
+use Rattle.board_encoding.specs.Loaded.{boardReadable, boardIn}
 use Rattle.ports.specs.Port.{portOf}
 use Rattle.turn.specs.declared.finding.Turn.the-variants as turn
 use Rattle.turn.specs.Finding.{refuse, writeTurn, readTurn, gateTurn, countsTurn, loadCycleTurn, catchUpTurn, runTurn, resetTurn}
@@ -97,3 +102,11 @@ written o bytes = told (numbersOf (o .reply)) (stored (o .board) bytes) (o .even
 -- .. and an operation whose answer is in numbers already
 abbrev pub operated : Outcome-in-numbers → List ℕ → InBytes
 operated o bytes = told (o .numbers) (stored (o .board) bytes) (o .events)
+
+-- the bytes of a board are there, and readable
+abbrev pub isBoard : List ℕ → Bool
+isBoard bytes = cond (ltb (length bytes) boardSize) false (boardReadable bytes)
+
+-- what the code loads of any bytes: a fresh board of those that are none
+abbrev pub boardFound : List ℕ → Board
+boardFound bytes = cond (isBoard bytes) (boardIn bytes) (fresh Model8253 0)

@@ -2,8 +2,9 @@
 // worked off, the three channels and the owed ticks.
 //
 // The parts stand here, taken out of the bytes and put back. finding.rt finds the part that an operation is about, working.rt does the operation. The rules themselves are those of
-// `turn`, `clock`, `ports` and `owed`, which know nothing of bytes.
+// `turn`, `clock`, `ports` and `owed`, which know nothing of bytes. loading.rt takes the whole board out, for a replay from a checkpoint.
 pub mod finding;
+pub mod loading;
 pub mod working;
 
 use board_encoding::DEFER_PLACE;

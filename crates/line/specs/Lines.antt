@@ -98,6 +98,10 @@ operationLine index reply events left = decimal index ++ ascii " " ++ answerText
 unfoldable pub endLine : ℕ → List ℕ
 endLine number = ascii "end " ++ decimal number ++ newline
 
+-- the full check of a trace's checkpoints (02, L7): `checked N` for N checkpoints that are right
+unfoldable pub checkedLine : ℕ → List ℕ
+checkedLine number = ascii "checked " ++ decimal number ++ newline
+
 -- "a fault prints only `trace refused N at P`"
 unfoldable pub faultLine : Faulted → List ℕ
 faultLine f = ascii "trace refused " ++ decimal (f .number) ++ ascii " at " ++ decimal (f .place) ++ newline

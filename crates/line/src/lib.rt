@@ -11,7 +11,7 @@ ghost use Prim.Native.Nat.{_≤_};
 ghost use lib.ListN.{length};
 ghost use Rattle.trace.specs.Answer.{faultOf};
 ghost use Rattle.line.specs.Line.{lineOf, lineRoom};
-ghost use Rattle.line.specs.Lines.{modelName, headLine, endLine, faultLine};
+ghost use Rattle.line.specs.Lines.{modelName, headLine, endLine, checkedLine, faultLine};
 
 // No line has more bytes.
 pub const LINE_ROOM: usize = 64;
@@ -49,6 +49,16 @@ pub fn end_line(number: u32) -> Line
 {
     let mut bytes = [0u8; LINE_ROOM];
     let mut place = text::put(&mut bytes, 0, b"end ");
+    place = text::put_decimal(&mut bytes, place, number as u64);
+    place = text::put(&mut bytes, place, b"\n");
+    Line { bytes, len: place }
+}
+
+pub fn checked_line(number: u32) -> Line
+    ensures { λ r. ⌜ (r ≡ lineOf (checkedLine number)) × (length (checkedLine number) ≤ lineRoom) ⌝ }
+{
+    let mut bytes = [0u8; LINE_ROOM];
+    let mut place = text::put(&mut bytes, 0, b"checked ");
     place = text::put_decimal(&mut bytes, place, number as u64);
     place = text::put(&mut bytes, place, b"\n");
     Line { bytes, len: place }

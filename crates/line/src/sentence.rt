@@ -1,5 +1,6 @@
 // What a line can say, and the line that says it.
 use crate::Line;
+use crate::checked_line;
 use crate::end_line;
 use crate::fault_line;
 use crate::head_line;
@@ -23,6 +24,8 @@ pub enum Sentence {
     End(u32),
     // Why a trace is refused, and where.
     Fault(Fault),
+    // How many checkpoints are right.
+    Checked(u32),
 }
 
 pub fn line_of(sentence: Sentence) -> Line
@@ -35,5 +38,6 @@ pub fn line_of(sentence: Sentence) -> Line
         }
         Sentence::End(number) => end_line(number),
         Sentence::Fault(fault) => fault_line(fault),
+        Sentence::Checked(number) => checked_line(number),
     }
 }

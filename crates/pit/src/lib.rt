@@ -15,7 +15,10 @@ pub use encoding::CHANNEL_SIZE;
 pub use in_bytes::BOARD_ANSWER_SIZE;
 pub use runner::TEXT_ROOM;
 pub use trace_calls::pit_answers;
+pub use trace_calls::pit_check;
+pub use trace_calls::pit_mark;
 pub use trace_calls::pit_replay;
+pub use trace_calls::pit_replay_from;
 
 const SHORT_RECORD: u32 = 101;
 

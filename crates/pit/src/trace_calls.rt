@@ -1,4 +1,4 @@
-// Whole traces: what a replay prints, and the answers in bytes.
+// Whole traces: what a replay prints, from the start or from a checkpoint, the answers in bytes, and checkpoints compared and made.
 use crate::SHORT_ANSWER;
 use crate::SHORT_OUT;
 use crate::answering;
@@ -7,6 +7,9 @@ use runner::lending::Replayed;
 ghost use mathlib.Core.Path.{_≡_};
 ghost use Rattle.refusal.specs.Reply.{numberIn};
 ghost use Rattle.runner.specs.Lent.{replyIn, replayInto, answersInto};
+ghost use Rattle.checkpoint.specs.Check.{checkInto};
+ghost use Rattle.checkpoint.specs.From.{replayFromInto};
+ghost use Rattle.checkpoint.specs.Mark.{markInto};
 ghost use Rattle.pit.specs.Trace.{replyAfter, replayCalled, replayCall};
 
 // The status of a replay, and its length in the answer.
@@ -44,4 +47,42 @@ pub extern "C" fn pit_answers(trace: &[u8], out: &mut [u8], answer: &mut [u8]) -
     }
     let answered = runner::answers_into(trace, out);
     settle(answered, answer)
+}
+
+#[no_mangle]
+pub extern "C" fn pit_replay_from(
+    trace: &[u8],
+    out: &mut [u8],
+    answer: &mut [u8],
+    first: u32,
+) -> u32
+    ensures { λ r. ⌜ replayCalled r (now (out .exit)) (now (answer .exit)) ≡ replayCall (replayFromInto (now (trace .entry)) first (now (out .entry))) (now (out .entry)) (now (answer .entry)) ⌝ }
+{
+    if answer.len() < BOARD_ANSWER_SIZE {
+        return SHORT_ANSWER;
+    }
+    let replayed = checkpoint::replay_from_into(trace, first, out);
+    settle(replayed, answer)
+}
+
+#[no_mangle]
+pub extern "C" fn pit_check(trace: &[u8], out: &mut [u8], answer: &mut [u8]) -> u32
+    ensures { λ r. ⌜ replayCalled r (now (out .exit)) (now (answer .exit)) ≡ replayCall (checkInto (now (trace .entry)) (now (out .entry))) (now (out .entry)) (now (answer .entry)) ⌝ }
+{
+    if answer.len() < BOARD_ANSWER_SIZE {
+        return SHORT_ANSWER;
+    }
+    let checked = checkpoint::check_into(trace, out);
+    settle(checked, answer)
+}
+
+#[no_mangle]
+pub extern "C" fn pit_mark(trace: &[u8], out: &mut [u8], answer: &mut [u8]) -> u32
+    ensures { λ r. ⌜ replayCalled r (now (out .exit)) (now (answer .exit)) ≡ replayCall (markInto (now (trace .entry)) (now (out .entry))) (now (out .entry)) (now (answer .entry)) ⌝ }
+{
+    if answer.len() < BOARD_ANSWER_SIZE {
+        return SHORT_ANSWER;
+    }
+    let marked = checkpoint::mark_into(trace, out);
+    settle(marked, answer)
 }

@@ -1,6 +1,6 @@
 -- Ticks worked off by the runner: the three channels put where they were, and the owed ticks that are left. Assumes nothing.
 use Prim.Native.Nat.{ℕ, _-_, _<_}
-use mathlib.Core.List.{List, [], _∷_, map}
+use mathlib.Core.List.{List, [], _∷_}
 use mathlib.Core.Path.{_≡_, refl, sym, ap, _∙_}
 use native.Mathlib.Omega.{arith}
 use lib.ListN.{length, set}
@@ -16,18 +16,18 @@ use Rattle.owed.specs.Ticked.{Has, tickedOn}
 use Rattle.owed.specs.Inner.{QuietRun}
 use Rattle.owed.specs.Worked.{workOff}
 use Rattle.owed.proofs.Runs.{three-are}
-use Rattle.step.proofs.Three.{steps-three}
+use Rattle.step.proofs.Three.{step-three}
 use Rattle.trace.specs.declared.operation.Operation.{Operation}
 use Rattle.turn.specs.declared.finding.Turn.the-variants.{WorkOff}
 use Rattle.recorded.specs.Asked.{asked, sixLent}
-use Rattle.recorded.specs.Made.{inSix, makeAll}
+use Rattle.recorded.specs.Made.{inSix, make}
 use Rattle.recorded.specs.Inner.{turnedInSix}
 use Rattle.recorded.proofs.Padded.{six-padded}
-use Rattle.recorded.proofs.Steps.{made-by-steps}
 
--- a board keeps its three channels over any operations
-pub three-left : (start : Board) → length (start .channels) ≡ 3 → (os : List Operation) → length (makeAll start os .channels) ≡ 3
-three-left start three os = rw (made-by-steps start os) (steps-three start three (map asked os))
+-- an operation leaves three channels
+pub three-made : (b : Board) → length (b .channels) ≡ 3 → (o : Operation) → length (make b o .board .channels) ≡ 3
+unfolding make
+three-made b three o = step-three b three (asked o)
 
 three-set : (xs : List Channel) (a b c : Channel) → length xs ≡ 3 → set (set (set xs 0 a) 1 b) 2 c ≡ a ∷ b ∷ c ∷ []
 three-set [] a b c three = absurd (omega arith)

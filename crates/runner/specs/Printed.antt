@@ -15,18 +15,20 @@ use Rattle.line.specs.Line.{lineRoom}
 use Rattle.line.specs.Lines.{headLine, operationLine, endLine, faultLine}
 use Rattle.recorded.specs.Made.{make}
 use Rattle.runner.specs.declared.Form.{Form}
-use Rattle.runner.specs.declared.Form.the-variants.{Lines, Answers}
+use Rattle.runner.specs.declared.Form.the-variants.{Lines, Answers, Silent}
 use Rattle.runner.specs.Answers.{traceAnswerSize, traceAnswerBytes}
 
--- "one line for each operation (its index, then ...)"; or its answer, which has no index
+-- "one line for each operation (its index, then ...)"; or its answer, which has no index; or nothing, where only the board is asked for
 abbrev pub said : Form → ℕ → Reply Value → List ℕ → ℕ → List ℕ
 said Lines index reply events left = operationLine index reply events left
 said Answers index reply events left = traceAnswerBytes reply events left
+said Silent index reply events left = []
 
 -- no line is longer, and every answer has so many bytes
 abbrev pub roomOf : Form → ℕ
 roomOf Lines = lineRoom
 roomOf Answers = traceAnswerSize
+roomOf Silent = 0
 
 -- what is said of an operation's outcome; what is `left` is the remainder after the operation
 abbrev pub saidOf : Form → ℕ → Outcome → List ℕ

@@ -61,7 +61,8 @@ pub fn answers_into(trace: &[u8], out: &mut [u8]) -> Replayed
             let model = head.model;
             let made = Board::new(model, head.divisor);
             let board = made.board;
-            Replayed::Written(tell(Form::Answers, trace, board, 0, number, out, 0))
+            let told = tell(Form::Answers, trace, board, 0, number, out, 0);
+            Replayed::Written(told.place)
         }
     }
 }

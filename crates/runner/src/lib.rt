@@ -24,12 +24,13 @@ use trace::head::Judged;
 use turn::finding::Turn;
 use turn::finding::Work;
 ghost use mathlib.Core.Path.{_≡_};
-ghost use Prim.Native.Nat.{_+_, _*_, _≤_};
+ghost use Prim.Native.Nat.{_+_, _-_, _*_, _≤_};
 ghost use lib.ListN.{length, take};
 ghost use Rattle.refusal.specs.Reply.{accepted};
 ghost use Rattle.board.specs.Outcome.{worked};
 ghost use Rattle.board.specs.Answer.{replyOf};
 ghost use Rattle.line.specs.Line.{lineRoom};
+ghost use Rattle.line.specs.Said.{sentenceText};
 ghost use Rattle.text.specs.Put.{put, answered};
 ghost use Rattle.trace.specs.Judgement.{sound};
 ghost use Rattle.trace.specs.Trace.{operationsFrom, traceOf};
@@ -37,17 +38,24 @@ ghost use Rattle.trace.specs.Operation.{operationIn};
 ghost use Rattle.trace.specs.Inner.{soundness};
 ghost use Rattle.turn.specs.Inner.{Finds};
 ghost use Rattle.recorded.specs.Finding.{turnOf};
-ghost use Rattle.runner.specs.Printed.{said, roomOf, toldFrom, printedTrace, printed, Prints};
-ghost use Rattle.runner.specs.Inner.{toTell, Puts};
+ghost use Rattle.runner.specs.Printed.{said, roomOf, printedTrace, printed, Prints};
+ghost use Rattle.runner.specs.Inner.{toTell, foundFrom, Puts, Tells};
 ghost use Rattle.io.specs.Counts.{Counts};
 
 // Room for what is printed of every trace: a line for the head, for each operation and for the end.
 pub const TEXT_ROOM: usize = LINE_ROOM * (MOST_OPERATIONS as usize + 2);
 
-// What is said of each operation: its line, or its answer in bytes.
+// What is said of each operation: its line, its answer in bytes, or nothing.
 pub enum Form {
     Lines,
     Answers,
+    Silent,
+}
+
+// The board after the operations, and the place behind what was said of them.
+pub struct Told {
+    pub board: Board,
+    pub place: usize,
 }
 
 fn put_line(out: &mut [u8], place: usize, line: Line) -> usize
@@ -57,6 +65,14 @@ fn put_line(out: &mut [u8], place: usize, line: Line) -> usize
     let bytes = line.bytes;
     let len = line.len;
     text::put(out, place, &bytes[..len])
+}
+
+// The line of a sentence, put at a place.
+pub fn put_sentence(out: &mut [u8], place: usize, sentence: Sentence) -> usize
+    ensures { λ r. ⌜ Puts (sentenceText sentence) lineRoom (now (out .entry)) place r (now (out .exit)) ⌝ }
+{
+    let line = line::line_of(sentence);
+    put_line(out, place, line)
 }
 
 // What is said of an operation, put behind what was said before.
@@ -90,6 +106,7 @@ fn say(
             let bytes = answering::trace_answer_bytes(answer, events, left);
             text::put(out, place, &bytes)
         }
+        Form::Silent => place,
     }
 }
 
@@ -108,27 +125,25 @@ fn turn_at(trace: &[u8], index: u32, owing: bool, model: PitType) -> Turn
     recorded::turn_of(trace::operation_in(trace, index), owing, model)
 }
 
-// What is said of the operations from the first index on, as many as are asked for. A replay from the start begins at 0; one from a later board will not.
-fn tell(
+// What is said of the operations from the first index up to the last, which is not told of any more, and the board after them. A replay from the start begins at 0, one
+// from a checkpoint at the operation behind it.
+pub fn tell(
     form: Form,
     trace: &[u8],
     start: Board,
     first: u32,
-    number: u32,
+    last: u32,
     out: &mut [u8],
     place: usize,
-) -> usize
-    requires { ⌜ soundness (operationsFrom (now trace) first number) ≡ sound tt ⌝ }
-    requires { ⌜ first + number ≤ 4096 ⌝ }
-    requires { ⌜ place + roomOf form * number ≤ length (now out) ⌝ }
-    ensures { λ r. ⌜ Puts (toldFrom form start first (toTell (now (trace .entry)) first number)) (roomOf form * number) (now (out .entry)) place r (now (out .exit)) ⌝ }
+) -> Told
+    ensures { λ r. ⌜ Tells form first (last - first) (foundFrom (now (trace .entry)) first (last - first)) start place (now (out .entry)) r (now (out .exit)) ⌝ }
 {
     let mut b = start;
     let mut at = place;
-    let mut j: u32 = 0;
-    while j < number {
-        let index = first + j;
-        j += 1;
+    let mut k = first;
+    while k < last {
+        let index = k;
+        k += 1;
         let owing = b.owed;
         let model = b.model;
         let turn = turn_at(trace, index, owing.0 != 0, model);
@@ -307,7 +322,10 @@ fn tell(
             }
         }
     }
-    at
+    Told {
+        board: b,
+        place: at,
+    }
 }
 
 fn replay_sound(trace: &[u8], head: Head, out: &mut [u8]) -> usize
@@ -321,10 +339,10 @@ fn replay_sound(trace: &[u8], head: Head, out: &mut [u8]) -> usize
     let made = Board::new(model, head.divisor);
     let board = made.board;
     let first = line::line_of(Sentence::Head(model, head.divisor));
-    let mut place = put_line(out, 0, first);
-    place = tell(Form::Lines, trace, board, 0, number, out, place);
+    let place = put_line(out, 0, first);
+    let told = tell(Form::Lines, trace, board, 0, number, out, place);
     let last = line::line_of(Sentence::End(number));
-    put_line(out, place, last)
+    put_line(out, told.place, last)
 }
 
 // How many bytes are printed. They stand at the front; the rest stays as it was.

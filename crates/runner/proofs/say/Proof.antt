@@ -1,6 +1,6 @@
 -- `runner::say` meets its contract. Assumes nothing.
 use Prim.Native.Nat.{ℕ, _≤_}
-use mathlib.Core.Path.{ap, _∙_}
+use mathlib.Core.Path.{sym, ap, _∙_}
 use mathlib.Core.List.{List}
 use native.Mathlib.Omega.{arith}
 use denote.Ref.{now}
@@ -13,6 +13,7 @@ use Rattle.text.specs.Put.{put}
 use Rattle.line.proofs.Back.{line-fits, line-back}
 use Rattle.line.proofs.FirstSix.{first-six}
 use Rattle.runner.specs.Answers.{traceAnswerSize, traceAnswerBytes}
+use Rattle.runner.proofs.Told.{put-nothing}
 use Rattle.runner.proofs.say.Statement.{statement}
 use Rattle.runner.proofs.say.Tie as tie
 
@@ -39,6 +40,12 @@ returns-2 c =
     let said = c .before .before .put .ensures ∙ ap (λ (text : List ℕ). put text (now (a .out)) (a .place)) (bytes .ensures) in
     rw (c .before .before .before .before .before .before .enum-told2 .given .1) record { told = said; short = answer-length (replyOf (a .answer)) (a .t6) (a .left .0) }
 
+-- nothing is said
+returns-3 : tie.Need-returns-3
+returns-3 c =
+    let a = c .before .before .before .args in
+    rw (c .enum-told3 .given .1) record { told = sym (put-nothing (now (a .out)) (a .place)); short = omega arith }
+
 pub say-spec : {M : Type 1} → statement M
 say-spec =
     tie.close
@@ -46,4 +53,5 @@ say-spec =
     (λ c. search needs) (λ c. search needs) (λ c. search needs) (λ c. search needs) (λ c. search needs) (λ c. search needs)
     (λ c. search needs) (λ c κs. search needs) put-line-requires
     (λ c. search needs) (λ c κs. search needs) (λ c. search needs) (λ c κs. search needs) (λ c. search needs) returns
-    (λ c. search needs) returns-2)
+    (λ c. search needs) returns-2
+    (λ c. search needs) returns-3)

@@ -1,12 +1,12 @@
 -- `runner::tell` meets its contract. Assumes nothing.
 --
 -- An arm's proof begins at the arm's own place, which is named once, and goes by `works`, of work on a channel, or by `next`, of any other turn.
-use Prim.Native.Nat.{ℕ, _+_, _-_, _≤_, _<_}
+use Prim.Native.Nat.{ℕ, _+_, _-_, _<_}
 use mathlib.Core.List.{List}
 use mathlib.Core.Path.{_≡_, refl, sym, ap, ap₂, subst, _∙_}
 use native.Mathlib.Omega.{arith}
 use denote.Ref.{now}
-use lib.ListN.{length, take, length-map}
+use lib.ListN.{length, length-map}
 use borrow.Author.Needs.{needs}
 use Rattle.channel.specs.declared.Channel.{Channel}
 use Rattle.latch.specs.declared.label.Label.{Label}
@@ -22,31 +22,37 @@ use Rattle.turn.specs.declared.finding.Turn.the-variants.{OnChannel}
 use Rattle.turn.specs.Turn.{withEvents, workOn}
 use Rattle.turn.specs.Inner.{OnBoard}
 use Rattle.recorded.specs.Asked.{twoLent}
-use Rattle.recorded.specs.Made.{inSix}
+use Rattle.trace.specs.Operation.{operationIn}
+use Rattle.recorded.specs.Made.{inSix, make}
 use Rattle.recorded.specs.Inner.{turnedInSix}
 use Rattle.recorded.proofs.Room.{latch-unheard, nothing-unheard, read-back-unheard}
 use Rattle.runner.specs.Printed.{roomOf, saidOf}
-use Rattle.runner.specs.Inner.{toTell, Puts}
-use Rattle.runner.proofs.Ticks.{three-left, all-quiet, some-made}
+use Rattle.runner.specs.Inner.{Puts}
+use Rattle.runner.proofs.Ticks.{three-made, all-quiet, some-made}
 use Rattle.runner.proofs.Turns.{Running, begun, turn-at-made, goes-on, ended}
 use Rattle.runner.proofs.tell.Statement.{statement}
 use Rattle.runner.proofs.tell.Tie as tie
 
 abbrev Inv-loop : tie.InvT-loop
-Inv-loop form trace first number out₀ place b₀ at₀ j₀ out b at j = (j ≤ number) × Running form b₀ first (toTell trace first number) out₀ place b at j out
+Inv-loop form trace last out₀ place b₀ at₀ k₀ out b at k = (last < 4294967296) × Running form trace k₀ last b₀ place out₀ k b at out
 
 abbrev μ-loop : tie.MeasureT-loop
-μ-loop form trace first number out₀ place b₀ at₀ j₀ out b at j = number - j
+μ-loop form trace last out₀ place b₀ at₀ k₀ out b at k = last - k
 
 loop-holds : tie.Need-loop-holds Inv-loop μ-loop
-loop-holds c = let a = c .before .before .args in (omega arith, begun (a .form) (a .start) (a .first) _ (now (a .out)) (a .place))
+loop-holds c =
+    let s = c .before .before in
+    let a = s .args in
+    -- owning the board tells how long its array is
+    let three = sym (length-map (a .start .channels) _) ∙ s .good .1 .1 .0 .1 .1 .0 .1 .0 .1 in
+    (omega arith, begun (a .form) (now (a .trace)) (a .first) (a .last) (a .start) (a .place) (now (a .out)) three)
 
 -- where a turn is found
 abbrev Found : Type 0
 Found = tie.After-turn-at Inv-loop μ-loop
 
 abbrev turn : Found → tie.At-loop Inv-loop μ-loop
-turn t = t .before .before .before .before
+turn t = t .before .before .before
 
 abbrev start : Found → tie.Start Inv-loop μ-loop
 start t = turn t .before .before .before
@@ -59,29 +65,26 @@ abbrev Said : Found → Outcome → ℕ → List ℕ → Type 0
 Said t outcome at₁ out₁ =
     let a = start t .args in
     let l = turn t .loop in
-    Puts (saidOf (a .form) (a .first + l .j) outcome) (roomOf (a .form)) (l .out) (l .at) at₁ out₁
+    Puts (saidOf (a .form) (l .k) outcome) (roomOf (a .form)) (l .out) (l .at) at₁ out₁
 
 abbrev Again : Found → Outcome → ℕ → List ℕ → Type 0
 Again t outcome at₁ out₁ =
     let a = start t .args in
-    Inv-loop (a .form) (now (a .trace)) (a .first) (a .number) (now (a .out)) (a .place) (a .start) (a .place) 0 out₁ (outcome .board) at₁ (turn t .loop .j + 1)
+    Inv-loop (a .form) (now (a .trace)) (a .last) (now (a .out)) (a .place) (a .start) (a .place) (a .first) out₁ (outcome .board) at₁ (turn t .loop .k + 1)
 
 next : (t : Found) (outcome : Outcome) → turnedInSix (board t) (t .turn-at .result) ≡ outcome
     → (at₁ : ℕ) (out₁ : List ℕ) → Said t outcome at₁ out₁ → Again t outcome at₁ out₁
 next t outcome comes at₁ out₁ said =
     let a = start t .args in
     let l = turn t .loop in
-    let h = t .before .before .before .loop-test .taken in (
-      omega (arith, h),
-      goes-on (a .form) (now (a .trace)) (a .first) (a .number) (start t .pre .0) (a .start) (now (a .out)) (a .place) (l .b) (l .at) (l .j) (l .out) (l .inv .1) h outcome
-          (λ o is. turn-at-made (l .b) (now (a .trace)) (a .first + l .j) o is ∙ ap (turnedInSix (l .b)) (sym (t .turn-at .ensures .0)) ∙ comes)
-          at₁
-          out₁
-          said,
+    let made : make (l .b) (operationIn (now (a .trace)) (l .k)) ≡ outcome = turn-at-made (l .b) (now (a .trace)) (l .k) ∙ ap (turnedInSix (l .b)) (sym (t .turn-at .ensures .0)) ∙ comes in
+    let three : length (outcome .board .channels) ≡ 3 = ap (λ (o : Outcome). length (o .board .channels)) (sym made) ∙ three-made (l .b) (l .inv .1 .three) (operationIn (now (a .trace)) (l .k)) in (
+      l .inv .0,
+      goes-on (a .form) (now (a .trace)) (a .first) (a .last) (a .start) (a .place) (now (a .out)) (l .k) (l .b) (l .at) (l .out) (l .inv .1) (t .before .before .loop-test .taken) outcome made at₁ out₁ said three,
     )
 
-less : (t : Found) → start t .args .number - (turn t .loop .j + 1) < start t .args .number - turn t .loop .j
-less t = omega (arith, t .before .before .before .loop-test .taken)
+less : (t : Found) → start t .args .last - (turn t .loop .k + 1) < start t .args .last - turn t .loop .k
+less t = omega (arith, t .before .before .loop-test .taken)
 
 -- where the turn is known to be work on a channel
 abbrev Known : Type 0
@@ -211,11 +214,7 @@ loop-again-9 c =
     _ _ (c .before .before .say9 .ensures)
 
 three : (t : Found) → length (board t .channels) ≡ 3
-three t =
-    let s = start t in
-    -- owning the board tells how long its array is
-    let begun = sym (length-map (s .args .start .channels) _) ∙ s .good .1 .1 .0 .1 .1 .0 .1 .0 .1 in
-    ap (λ (b : Board). length (b .channels)) (turn t .loop .inv .1 .board-is) ∙ three-left (s .args .start) begun (take (turn t .loop .j) (toTell (now (s .args .trace)) (s .args .first) (s .args .number)))
+three t = turn t .loop .inv .1 .three
 
 -- ticks worked off that are all quiet: the three channels' new fields, the last first
 abbrev third : tie.After-struct-known2 Inv-loop μ-loop → tie.After-skipped3 Inv-loop μ-loop
@@ -287,10 +286,9 @@ loop-again-14 c =
 returns : tie.Need-returns Inv-loop μ-loop
 returns c =
     let l = c .before .loop in
-    let start = c .before .before .before .before in
-    let a = start .args in
-    let all : l .j ≡ a .number = omega (arith, l .inv .0, c .loop-test .left) in
-    ended (a .form) (now (a .trace)) (a .first) (a .number) (start .pre .0) (a .start) (now (a .out)) (a .place) (l .b) (l .at) (l .j) (l .out) (l .inv .1) all (start .pre .1 .1)
+    let a = c .before .before .before .before .args in
+    let all = ended (a .form) (now (a .trace)) (a .first) (a .last) (a .start) (a .place) (now (a .out)) (l .k) (l .b) (l .at) (l .out) (l .inv .1) (c .loop-test .left) in
+    record { tells = all .0; shortly = all .1 }
 
 pub tell-spec : {M : Type 1} → statement M
 tell-spec =
@@ -300,8 +298,7 @@ tell-spec =
     μ-loop
     loop-holds
     -- the turn is found
-    (λ c. omega (arith, c .before .before .before .before .pre .1, c .loop-test .taken))
-    (λ c. omega (arith, c .before .before .before .before .pre .1, c .loop-test .taken))
+    (λ c. omega (arith, c .before .loop .inv .0, c .loop-test .taken))
     (λ c κs. search needs)
     -- the arms, one after another, each up to its `loop-again`
     (λ c. search needs) (λ c. omega (arith, on-board c))

@@ -15,12 +15,16 @@ returns-3 c = rw (c .before .before .sentence3 .given .1) (c .end-line .ensures)
 returns-4 : tie.Need-returns-4
 returns-4 c = rw (c .before .before .sentence4 .given .1) (c .fault-line .ensures)
 
+returns-5 : tie.Need-returns-5
+returns-5 c = rw (c .before .before .sentence5 .given .1) (c .checked-line .ensures)
+
 pub line-of-spec : {M : Type 1} → statement M
 line-of-spec =
     tie.close
     (tie.spec
     (λ c. search needs) (λ c κs. search needs) (λ c. search needs) (λ c κs. search needs) (λ c. search needs) (λ c κs. search needs)
-    (λ c. search needs) (λ c κs. search needs) returns
+    (λ c. search needs) (λ c κs. search needs) (λ c. search needs) (λ c κs. search needs) returns
     returns-2
     returns-3
-    returns-4)
+    returns-4
+    returns-5)

@@ -12,7 +12,7 @@ use Rattle.runner.specs.declared.Form.the-variants.{Answers}
 use Rattle.runner.specs.Printed.{toldFrom}
 use Rattle.runner.specs.Lent.{answersOf, answersInto}
 use Rattle.runner.specs.Inner.{toTell}
-use Rattle.runner.proofs.Whole.{new-board, prints}
+use Rattle.runner.proofs.Whole.{new-board, told-sound, prints}
 use Rattle.runner.proofs.Lent.{no-room, in-room, operations-are}
 use Rattle.runner.proofs.lending.answers_into.Statement.{statement}
 use Rattle.runner.proofs.lending.answers_into.Tie as tie
@@ -27,13 +27,6 @@ returns c =
     let whole = judged-sound (now (a .trace)) head (sym (judged .judge .ensures) ∙ ap headJudged (told .judged2 .given .1)) in
     rw (whole .whole) (rw (operations-are (now (a .trace)) head whole) (no-room _ (answersOf (traceOf head (toTell (now (a .trace)) 0 (head .operations)))) (now (a .out)) (c .if1 .taken)))
 
-tell-requires : tie.Need-tell-requires
-tell-requires c κs =
-    let room = c .before .before .before in
-    let told = room .before .before in
-    let whole = judged-sound _ (told .judged2 .given .0 .0) (sym (told .before .before .judge .ensures) ∙ ap headJudged (told .judged2 .given .1)) in
-    (whole .all-sound, (omega (arith, whole .not-too-many), omega (arith, room .if1 .left)))
-
 returns-2 : tie.Need-returns-2
 unfolding answersInto
 returns-2 c =
@@ -44,7 +37,7 @@ returns-2 c =
 returns-3 : tie.Need-returns-3
 unfolding answersInto
 returns-3 c =
-    let said = c .before .before .tell .ensures in
+    let told-of = c .before .before .tell in
     let made = c .before .before .before .before .before in
     let room = made .before .if1 .left in
     let told = made .before .before .before in
@@ -54,6 +47,7 @@ returns-3 c =
     let whole = judged-sound (now (a .trace)) head (sym (judged .judge .ensures) ∙ ap headJudged (told .judged2 .given .1)) in
     let board = ap (λ (o : Outcome). o .board) (made .new .ensures) ∙ new-board (head .model) (head .divisor) in
     let text = toldFrom Answers (made .new .result .board) 0 (toTell (now (a .trace)) 0 (head .operations)) in
+    let said = told-sound Answers (now (a .trace)) (head .operations) (whole .all-sound) _ 0 (now (a .out)) _ _ (told-of .ensures) room in
     let all = prints (wrote text (now (a .out)) 0 _ _ (said .told)) (omega (arith, said .short, room)) in
     rw (whole .whole) (rw (operations-are (now (a .trace)) head whole) (rw⁻¹ board (in-room _ text (now (a .out)) _ _ room all)))
 
@@ -62,6 +56,6 @@ answers-into-spec =
     tie.close
     (tie.spec
     (λ c κs. search needs) (λ c. search needs) (λ c. search needs) (λ c. search needs) (λ c. search needs) returns
-    (λ c κs. search needs) tell-requires
+    (λ c κs. search needs) (λ c κs. search needs)
     returns-2
     (λ c. search needs) returns-3)

@@ -1,0 +1,52 @@
+// A trace with its section three, made anew.
+use crate::board_after;
+use board::Board;
+use board_encoding::BOARD_SIZE;
+use runner::lending::Replayed;
+use trace::CHECKPOINT_EVERY;
+use trace::head::Head;
+use trace::head::Judged;
+use trace::operation::place_of;
+use trace::section::checkpoint_place;
+use trace::section::checkpoints_of;
+ghost use mathlib.Core.Path.{_≡_};
+
+// The boards of the checkpoints, put one after another.
+fn put_boards(trace: &[u8], head: Head, number: u32, out: &mut [u8], place: usize) -> usize {
+    let model = head.model;
+    let made = Board::new(model, head.divisor);
+    let mut board = made.board;
+    let mut at = place;
+    let mut k: u32 = 0;
+    while k < number {
+        let first = CHECKPOINT_EVERY * k;
+        k += 1;
+        board = board_after(trace, board, first, first + CHECKPOINT_EVERY);
+        let bytes = board_encoding::board_bytes(board);
+        at = text::put(out, at, &bytes);
+    }
+    at
+}
+
+// The trace up to its last operation, the count of its checkpoints, and their boards, where the lent bytes have room for them.
+pub fn mark_into(trace: &[u8], out: &mut [u8]) -> Replayed {
+    let judged = trace::judge(trace);
+    match judged {
+        Judged::Refused(fault) => {
+            let refusal = fault.refusal;
+            Replayed::Refused(refusal)
+        }
+        Judged::Sound(head) => {
+            let operations = head.operations;
+            let number = checkpoints_of(operations);
+            if out.len() < checkpoint_place(operations, number) {
+                return Replayed::Short;
+            }
+            let end = place_of(operations);
+            let count = numbers::four_bytes(number);
+            let mut place = text::put(out, 0, &trace[..end]);
+            place = text::put(out, place, &count);
+            Replayed::Written(put_boards(trace, head, number, out, place))
+        }
+    }
+}
