@@ -13,7 +13,7 @@ use Rattle.runner.specs.declared.lending.Replayed.the-variants.{Written,
 use Rattle.runner.specs.Printed.{printed, Prints}
 use Rattle.runner.specs.Lent.{inRoom, roomFor, replayInto, replayed}
 use Rattle.runner.specs.Inner.{toTell}
-use Rattle.runner.proofs.Told.{as-many-as}
+use Rattle.runner.proofs.Loop.{as-many-as}
 
 pub no-room : (room : ℕ) (text bytes : List ℕ) → length bytes < room → replayed Short bytes ≡ inRoom room text bytes
 no-room room text bytes h = simp (lt-ltb (length bytes) room h)

@@ -1,5 +1,5 @@
 pub mod Turns
-pub mod Told
+pub mod Loop
 pub mod Whole
 pub mod Lent
 pub mod Apart

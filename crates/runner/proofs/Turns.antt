@@ -8,6 +8,7 @@ use native.Mathlib.Omega.{arith}
 use lib.ListN.{length, length-append}
 use Rattle.board.specs.declared.Board.{Board}
 use Rattle.board.specs.Outcome.{Outcome}
+use Rattle.text.specs.Put.{put}
 use Rattle.text.proofs.Puts.{put-length}
 use Rattle.trace.specs.declared.operation.Operation.{Operation}
 use Rattle.trace.specs.Operation.{operationIn}
@@ -18,7 +19,7 @@ use Rattle.recorded.specs.Inner.{turnedInSix}
 use Rattle.recorded.proofs.Recorded.{turn-made}
 use Rattle.runner.specs.declared.Form.{Form}
 use Rattle.runner.specs.Printed.{roomOf, saidOf, toldFrom}
-use Rattle.runner.specs.Inner.{foundFrom, Puts, Telling, telling, tellAll}
+use Rattle.runner.specs.Inner.{foundFrom, Puts, Telling, telling, tellOne, tellAll}
 
 -- the operations of the trace from an index up to a last one, of which it is the first, come to this
 abbrev Left : Form → List ℕ → ℕ → ℕ → Telling → Telling
@@ -43,7 +44,7 @@ begun form trace first last start place bytes three = record { comes = refl; sho
 pub turn-at-made : (b : Board) (trace : List ℕ) (index : ℕ) → make b (operationIn trace index) ≡ turnedInSix b (turnOf (owes b) (b .model) (operationIn trace index))
 turn-at-made b trace index = turn-made b (operationIn trace index)
 
-left-one : (k last : ℕ) → k < last → last - k ≡ suc (last - (k + 1))
+left-one : (k last : ℕ) → k < last → last - k ≡ suc (last - suc k)
 left-one k last h = omega arith
 
 one-more : (room left a b : ℕ) → a ≤ room → b ≤ room * left → a + b ≤ room * suc left
@@ -56,14 +57,15 @@ module _ (form : Form) (trace : List ℕ) (first last : ℕ) (start : Board) (pl
       → Running form trace first last start place bytes (k + 1) (outcome .board) at₁ out₁
   goes-on h outcome made at₁ out₁ said three =
       let o = operationIn trace k in
-      let left = last - (k + 1) in
-      let rest = foundFrom trace (k + 1) left in
-      let later : foundFrom trace k (last - k) ≡ o ∷ rest = rw (left-one k last h) (rw (add-one k) refl) in
-      let now-there : tellAll form (k + 1) rest (telling (outcome .board) at₁ out₁) ≡ tellAll form k (o ∷ rest) (telling b at out) =
-      rw made (rw⁻¹ (said .told) (rw (add-one k) refl)) in
-      let text : toldFrom form b k (o ∷ rest) ≡ saidOf form k outcome ++ toldFrom form (outcome .board) (k + 1) rest = rw made (rw (add-one k) refl) in
+      let left = last - suc k in
+      let rest = foundFrom trace (suc k) left in
+      let later : foundFrom trace k (last - k) ≡ o ∷ rest = rw (left-one k last h) refl in
+      let one : tellOne form k (telling b at out) o ≡ telling (outcome .board) at₁ out₁ =
+      (λ i. record { board = made i .board; text = put (saidOf form k (made i)) out at }) ∙ (λ i. record { board = outcome .board; text = sym (said .told) i }) in
+      let text : toldFrom form b k (o ∷ rest) ≡ saidOf form k outcome ++ toldFrom form (outcome .board) (suc k) rest = ap (λ (p : Outcome). saidOf form k p ++ toldFrom form (p .board) (suc k) rest) made in
+      rw (add-one k)
       record {
-        comes = now-there ∙ ap (λ (os : List Operation). tellAll form k os (telling b at out)) (sym later) ∙ r .comes;
+        comes = ap (tellAll form (suc k) rest) (sym one) ∙ ap (λ (os : List Operation). tellAll form k os (telling b at out)) (sym later) ∙ r .comes;
         short =
             λ few.
             r .short

@@ -27,7 +27,7 @@ use Rattle.runner.specs.declared.Form.{Form}
 use Rattle.runner.specs.declared.Told.{Told}
 use Rattle.runner.specs.Printed.{roomOf, toldFrom, printedJudgement, printed, Prints}
 use Rattle.runner.specs.Inner.{toTell, foundFrom, Puts, Tells}
-use Rattle.runner.proofs.Told.{found-are, told-whole}
+use Rattle.runner.proofs.Loop.{found-are, told-whole}
 
 -- the board beside a refusal is the fresh one too
 pub new-board : (model : PitType) (divisor : ℕ) → new model divisor .board ≡ fresh model divisor
@@ -39,7 +39,9 @@ pub told-sound : (form : Form) (trace : List ℕ) (number : ℕ) → soundness (
     → (start : Board) (place : ℕ) (bytes : List ℕ) (r : Told) (after : List ℕ) → Tells form 0 (number - 0) (foundFrom trace 0 (number - 0)) start place bytes r after
     → place + roomOf form * number ≤ length bytes → Puts (toldFrom form start 0 (toTell trace 0 number)) (roomOf form * number) bytes place (r .place) after
 told-sound form trace number all start place bytes r after t room =
-    told-whole form 0 number (toTell trace 0 number) start place bytes r after (subst (λ (os : List Operation). Tells form 0 number os start place bytes r after) (found-are trace 0 number all) t) room .0
+    let every : number - 0 ≡ number = omega arith in
+    let found : Tells form 0 number (foundFrom trace 0 number) start place bytes r after = subst (λ (n : ℕ). Tells form 0 n (foundFrom trace 0 n) start place bytes r after) every t in
+    told-whole form 0 number (toTell trace 0 number) start place bytes r after (subst (λ (os : List Operation). Tells form 0 number os start place bytes r after) (found-are trace 0 number all) found) room .0
 
 -- a line that is put is its text put
 pub line-put : (line : Line) (text bytes : List ℕ) (place place₁ : ℕ) (bytes₁ : List ℕ) → line ≡ lineOf text

@@ -1,4 +1,5 @@
 -- `runner::replay_sound` meets its contract. Assumes nothing.
+use Prim.Native.Nat.{_*_}
 use mathlib.Core.Path.{ap, _∙_}
 use native.Mathlib.Omega.{arith}
 use denote.Ref.{now}
@@ -12,7 +13,7 @@ use Rattle.text.proofs.Puts.{wrote, and-then, wrote-place, put-length}
 use Rattle.runner.specs.declared.Form.the-variants.{Lines}
 use Rattle.runner.specs.Printed.{toldFrom}
 use Rattle.runner.specs.Inner.{toTell, Puts}
-use Rattle.runner.proofs.Told.{as-many-as}
+use Rattle.runner.proofs.Loop.{as-many-as}
 use Rattle.runner.proofs.Whole.{new-board, told-sound, line-put, prints}
 use Rattle.runner.proofs.replay_sound.Statement.{statement}
 use Rattle.runner.proofs.replay_sound.Tie as tie
@@ -40,7 +41,7 @@ first c = headed c .before .before .before .before .before .before .before
 abbrev Lines-put : tie.After-slice-known4 → Type 0
 Lines-put c =
     let a = first c .args in
-    Puts (toldFrom Lines (headed c .before .before .before .before .new .result .board) 0 (toTell (now (a .trace)) 0 (a .head .operations))) (lineRoom * a .head .operations) (headed c .put-line .last .1 .1 .0) (headed c .put-line .result) (told c .tell .result .place) (told c .tell .last .1 .1 .0)
+    Puts (toldFrom Lines (headed c .before .before .before .before .new .result .board) 0 (toTell (now (a .trace)) 0 (a .head .operations))) (lineRoom * a .head .operations) (headed c .put-line .last .0) (headed c .put-line .result) (told c .tell .result .place) (told c .tell .last .1 .1 .1 .1 .1 .0)
 
 lines-put : (c : tie.After-slice-known4) → Lines-put c
 lines-put c =

@@ -13,7 +13,7 @@ use Rattle.text.specs.Put.{put}
 use Rattle.line.proofs.Back.{line-fits, line-back}
 use Rattle.line.proofs.FirstSix.{first-six}
 use Rattle.runner.specs.Answers.{traceAnswerSize, traceAnswerBytes}
-use Rattle.runner.proofs.Told.{put-nothing}
+use Rattle.runner.proofs.Loop.{put-nothing}
 use Rattle.runner.proofs.say.Statement.{statement}
 use Rattle.runner.proofs.say.Tie as tie
 
@@ -52,6 +52,7 @@ say-spec =
     (tie.spec
     (λ c. search needs) (λ c. search needs) (λ c. search needs) (λ c. search needs) (λ c. search needs) (λ c. search needs)
     (λ c. search needs) (λ c κs. search needs) put-line-requires
-    (λ c. search needs) (λ c κs. search needs) (λ c. search needs) (λ c κs. search needs) (λ c. search needs) returns
+    (λ c. search needs) (λ c κs. search needs) (λ c. search needs) (λ c κs. search needs) (λ c. search needs)
+    (λ c. search needs) returns
     (λ c. search needs) returns-2
-    (λ c. search needs) returns-3)
+    returns-3)

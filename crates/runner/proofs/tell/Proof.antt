@@ -34,10 +34,10 @@ use Rattle.runner.proofs.tell.Statement.{statement}
 use Rattle.runner.proofs.tell.Tie as tie
 
 abbrev Inv-loop : tie.InvT-loop
-Inv-loop form trace last out₀ place b₀ at₀ k₀ out b at k = (last < 4294967296) × Running form trace k₀ last b₀ place out₀ k b at out
+Inv-loop form trace first last out₀ place b₀ at₀ k₀ out b at k = (last < 4294967296) × Running form trace first last b₀ place out₀ k b at out
 
 abbrev μ-loop : tie.MeasureT-loop
-μ-loop form trace last out₀ place b₀ at₀ k₀ out b at k = last - k
+μ-loop form trace first last out₀ place b₀ at₀ k₀ out b at k = last - k
 
 loop-holds : tie.Need-loop-holds Inv-loop μ-loop
 loop-holds c =
@@ -52,7 +52,7 @@ abbrev Found : Type 0
 Found = tie.After-turn-at Inv-loop μ-loop
 
 abbrev turn : Found → tie.At-loop Inv-loop μ-loop
-turn t = t .before .before .before
+turn t = t .before .before .before .before
 
 abbrev start : Found → tie.Start Inv-loop μ-loop
 start t = turn t .before .before .before
@@ -70,7 +70,7 @@ Said t outcome at₁ out₁ =
 abbrev Again : Found → Outcome → ℕ → List ℕ → Type 0
 Again t outcome at₁ out₁ =
     let a = start t .args in
-    Inv-loop (a .form) (now (a .trace)) (a .last) (now (a .out)) (a .place) (a .start) (a .place) (a .first) out₁ (outcome .board) at₁ (turn t .loop .k + 1)
+    Inv-loop (a .form) (now (a .trace)) (a .first) (a .last) (now (a .out)) (a .place) (a .start) (a .place) (a .first) out₁ (outcome .board) at₁ (turn t .loop .k + 1)
 
 next : (t : Found) (outcome : Outcome) → turnedInSix (board t) (t .turn-at .result) ≡ outcome
     → (at₁ : ℕ) (out₁ : List ℕ) → Said t outcome at₁ out₁ → Again t outcome at₁ out₁
@@ -80,11 +80,11 @@ next t outcome comes at₁ out₁ said =
     let made : make (l .b) (operationIn (now (a .trace)) (l .k)) ≡ outcome = turn-at-made (l .b) (now (a .trace)) (l .k) ∙ ap (turnedInSix (l .b)) (sym (t .turn-at .ensures .0)) ∙ comes in
     let three : length (outcome .board .channels) ≡ 3 = ap (λ (o : Outcome). length (o .board .channels)) (sym made) ∙ three-made (l .b) (l .inv .1 .three) (operationIn (now (a .trace)) (l .k)) in (
       l .inv .0,
-      goes-on (a .form) (now (a .trace)) (a .first) (a .last) (a .start) (a .place) (now (a .out)) (l .k) (l .b) (l .at) (l .out) (l .inv .1) (t .before .before .loop-test .taken) outcome made at₁ out₁ said three,
+      goes-on (a .form) (now (a .trace)) (a .first) (a .last) (a .start) (a .place) (now (a .out)) (l .k) (l .b) (l .at) (l .out) (l .inv .1) (t .before .before .before .loop-test .taken) outcome made at₁ out₁ said three,
     )
 
 less : (t : Found) → start t .args .last - (turn t .loop .k + 1) < start t .args .last - turn t .loop .k
-less t = omega (arith, t .before .before .loop-test .taken)
+less t = omega (arith, t .before .before .before .loop-test .taken)
 
 -- where the turn is known to be work on a channel
 abbrev Known : Type 0

@@ -47,7 +47,7 @@ returns-3 c =
     let whole = judged-sound (now (a .trace)) head (sym (judged .judge .ensures) ∙ ap headJudged (told .judged2 .given .1)) in
     let board = ap (λ (o : Outcome). o .board) (made .new .ensures) ∙ new-board (head .model) (head .divisor) in
     let text = toldFrom Answers (made .new .result .board) 0 (toTell (now (a .trace)) 0 (head .operations)) in
-    let said = told-sound Answers (now (a .trace)) (head .operations) (whole .all-sound) _ 0 (now (a .out)) _ _ (told-of .ensures) room in
+    let said = told-sound Answers (now (a .trace)) (head .operations) (whole .all-sound) _ 0 (now (a .out)) _ _ (told-of .ensures) (omega (arith, room)) in
     let all = prints (wrote text (now (a .out)) 0 _ _ (said .told)) (omega (arith, said .short, room)) in
     rw (whole .whole) (rw (operations-are (now (a .trace)) head whole) (rw⁻¹ board (in-room _ text (now (a .out)) _ _ room all)))
 

@@ -51,7 +51,7 @@ text-after form index (o ∷ os) b place bytes room =
     let at : first .place ≡ place + length text = ap (λ (p : Put). p .place) (put-fits text bytes place (omega arith)) in
     let long : length (first .bytes) ≡ length bytes = put-length text bytes place (first .place) (first .bytes) refl in
     let fits : first .place + length rest ≤ length (first .bytes) = omega arith in
-    sym (put-then text rest bytes (first .bytes) _ place (first .place) _ room refl (text-after form (suc index) os (make b o .board) (first .place) (first .bytes) fits))
+    put-then text rest bytes (first .bytes) _ place (first .place) _ room refl (text-after form (suc index) os (make b o .board) (first .place) (first .bytes) fits)
 
 -- the operations of a sound trace are those that are found
 pub all-found : (trace : List ℕ) (index n : ℕ) → OfSound (λ (os : List Operation). foundFrom trace index n ≡ os) (operationsFrom trace index n)

@@ -1,0 +1,3 @@
+-- Not for readers: what the contracts of private functions speak of.
+use Prim.Native.Nat.{ℕ}
+use Rattle.trace.specs.Judgement.{Judgement, refusedBy, sound, faultAt}
