@@ -17,11 +17,11 @@ use Rattle.runner.specs.Lent.{Replaying, inRoom}
 use Rattle.checkpoint.specs.Boards.{size, operationsTo, checkpointBytes, checkpointsIn}
 
 -- "18 .. for a replay from one that is missing or unreadable": a missing one's place is the whole length, an unreadable one's its first byte
-abbrev pub startAt : List ℕ → Trace → ℕ → Judgement Board
-startAt bytes t k =
-    ruled (not (ltb k (checkpointsIn bytes (size t)))) 18 (length bytes)
-    (ruled (not (boardReadable (checkpointBytes bytes (size t) k))) 18 (checkpointPlace (size t) k)
-    (sound (boardIn (checkpointBytes bytes (size t) k))))
+abbrev pub startAt : List ℕ → ℕ → ℕ → Judgement Board
+startAt bytes operations k =
+    ruled (not (ltb k (checkpointsIn bytes operations))) 18 (length bytes)
+    (ruled (not (boardReadable (checkpointBytes bytes operations k))) 18 (checkpointPlace operations k)
+    (sound (boardIn (checkpointBytes bytes operations k))))
 
 -- no head line; each operation behind the checkpoint has its own index, and the end line the whole operation count
 abbrev pub linesFrom : Trace → ℕ → Board → List ℕ
@@ -38,7 +38,7 @@ fromText t k (sound b) = record { text = linesFrom t k b; room = lineRoom * suc 
 
 abbrev pub fromJudged : List ℕ → ℕ → Judgement Trace → Text
 fromJudged bytes k (refusedBy f) = record { text = faultLine f; room = lineRoom }
-fromJudged bytes k (sound t) = fromText t k (startAt bytes t k)
+fromJudged bytes k (sound t) = fromText t k (startAt bytes (size t) k)
 
 -- what the replay from checkpoint k prints
 unfoldable pub printedFrom : List ℕ → ℕ → List ℕ

@@ -15,14 +15,15 @@ use trace::head::Judged;
 use trace::section::checkpoint_place;
 ghost use mathlib.Core.Path.{_≡_};
 ghost use mathlib.Core.Bool.{not};
-ghost use Prim.Native.Nat.{_≤_};
+ghost use Prim.Native.Nat.{_+_, _≤_};
+ghost use lib.ListN.{length};
+ghost use Rattle.board_encoding.specs.Places.{boardSize};
 ghost use Rattle.board_encoding.specs.Stored.{boardBytes};
-ghost use Rattle.trace.specs.Sizes.{checkpointsOf};
-ghost use Rattle.trace.specs.Trace.{traceOf};
+ghost use Rattle.line.specs.Said.{sentenceText};
 ghost use Rattle.runner.specs.Lent.{replayed};
-ghost use Rattle.runner.specs.Inner.{foundFrom};
 ghost use Rattle.checkpoint.specs.Boards.{boardPart};
-ghost use Rattle.checkpoint.specs.Check.{sameBytes, checkFirst, check, checkedOf, checkInto};
+ghost use Rattle.checkpoint.specs.Check.{sameBytes, checkFirst, check, checkedText, checkedOf, checkInto};
+ghost use Rattle.checkpoint.specs.Inner.{traceFound, Standing};
 
 // What the full check comes to: how many checkpoints there are, all right, or the trace's fault.
 pub enum Checked {
@@ -32,23 +33,18 @@ pub enum Checked {
 
 // Whether the bytes at a place are other than the board's.
 fn differs(trace: &[u8], place: usize, board: Board) -> bool
+    requires { ⌜ place + boardSize ≤ length (now trace) ⌝ }
     ensures { λ r. ⌜ r ≡ not (sameBytes (boardPart (now (trace .entry)) place) (boardBytes board)) ⌝ }
 {
     let bytes = board_encoding::board_bytes(board);
-    if trace.len() < BOARD_SIZE {
-        return true;
-    }
-    if trace.len() - BOARD_SIZE < place {
-        return true;
-    }
     let end = place + BOARD_SIZE;
     !check::same(&trace[place..end], &bytes)
 }
 
 // The first so many checkpoints, one after another. Refusal 18.
 fn compare(trace: &[u8], head: Head, number: u32) -> Checked
-    requires { ⌜ number ≤ checkpointsOf (head .operations) ⌝ }
-    ensures { λ r. ⌜ checkedOf r ≡ checkFirst (now (trace .entry)) (traceOf head (foundFrom (now (trace .entry)) 0 (head .operations))) number ⌝ }
+    requires { ⌜ Standing (now trace) (head .operations) number ⌝ }
+    ensures { λ r. ⌜ checkedOf r ≡ checkFirst (now (trace .entry)) (traceFound (now (trace .entry)) head) number ⌝ }
 {
     let model = head.model;
     let operations = head.operations;
@@ -84,7 +80,9 @@ pub fn check(trace: &[u8]) -> Checked
     }
 }
 
-fn sentence_of(checked: Checked) -> Sentence {
+fn sentence_of(checked: Checked) -> Sentence
+    ensures { λ r. ⌜ sentenceText r ≡ checkedText (checkedOf checked) ⌝ }
+{
     match checked {
         Checked::Right(number) => Sentence::Checked(number),
         Checked::Refused(fault) => Sentence::Fault(fault),

@@ -1,7 +1,6 @@
 // A trace with its section three, made anew.
 use crate::board_after;
 use board::Board;
-use board_encoding::BOARD_SIZE;
 use runner::lending::Replayed;
 use trace::CHECKPOINT_EVERY;
 use trace::head::Head;
@@ -10,9 +9,22 @@ use trace::operation::place_of;
 use trace::section::checkpoint_place;
 use trace::section::checkpoints_of;
 ghost use mathlib.Core.Path.{_≡_};
+ghost use Prim.Native.Nat.{_+_, _*_, _≤_};
+ghost use lib.ListN.{length};
+ghost use Rattle.board_encoding.specs.Places.{boardSize};
+ghost use Rattle.text.specs.Put.{put, answered};
+ghost use Rattle.trace.specs.Sizes.{checkpointsOf};
+ghost use Rattle.runner.specs.Lent.{replayed};
+ghost use Rattle.checkpoint.specs.Boards.{boardsFrom};
+ghost use Rattle.checkpoint.specs.Mark.{markInto};
+ghost use Rattle.checkpoint.specs.Inner.{traceFound};
 
 // The boards of the checkpoints, put one after another.
-fn put_boards(trace: &[u8], head: Head, number: u32, out: &mut [u8], place: usize) -> usize {
+fn put_boards(trace: &[u8], head: Head, number: u32, out: &mut [u8], place: usize) -> usize
+    requires { ⌜ number ≤ checkpointsOf (head .operations) ⌝ }
+    requires { ⌜ place + boardSize * number ≤ length (now out) ⌝ }
+    ensures { λ r. ⌜ answered r (now (out .exit)) ≡ put (boardsFrom (traceFound (now (trace .entry)) head) 0 number) (now (out .entry)) place ⌝ }
+{
     let model = head.model;
     let made = Board::new(model, head.divisor);
     let mut board = made.board;
@@ -29,7 +41,9 @@ fn put_boards(trace: &[u8], head: Head, number: u32, out: &mut [u8], place: usiz
 }
 
 // The trace up to its last operation, the count of its checkpoints, and their boards, where the lent bytes have room for them.
-pub fn mark_into(trace: &[u8], out: &mut [u8]) -> Replayed {
+pub fn mark_into(trace: &[u8], out: &mut [u8]) -> Replayed
+    ensures { λ r. ⌜ replayed r (now (out .exit)) ≡ markInto (now (trace .entry)) (now (out .entry)) ⌝ }
+{
     let judged = trace::judge(trace);
     match judged {
         Judged::Refused(fault) => {

@@ -1,5 +1,6 @@
 // A replay that begins at a checkpoint.
 use crate::checkpoints_in;
+use board::Board;
 use board_encoding::BOARD_SIZE;
 use in_bytes::loading::is_board;
 use in_bytes::loading::load_board;
@@ -15,49 +16,43 @@ use trace::head::Head;
 use trace::head::Judged;
 use trace::section::checkpoint_place;
 ghost use mathlib.Core.Path.{_≡_};
-ghost use Rattle.runner.specs.Lent.{replayed};
+ghost use Prim.Native.Nat.{suc, _-_, _*_, _≤_};
+ghost use Rattle.trace.specs.Judgement.{sound};
+ghost use Rattle.trace.specs.Section.{sectionThree};
+ghost use Rattle.trace.specs.Answer.{faultOf};
+ghost use Rattle.line.specs.Line.{lineRoom};
+ghost use Rattle.line.specs.Lines.{faultLine};
+ghost use Rattle.runner.specs.Lent.{inRoom, replayed};
+ghost use Rattle.checkpoint.specs.From.{replayFromInto};
+ghost use Rattle.checkpoint.specs.Inner.{traceFound, linesFound, fromFound};
 
-// Where the board of a checkpoint stands, or why no replay begins there.
-enum Start {
-    At(usize),
-    Wrong(Fault),
-}
-
-fn wrong(place: usize) -> Start {
-    Start::Wrong(Fault {
-        refusal: Refusal::CheckpointWrong,
-        place,
-    })
-}
-
-// Refusal 18: at the whole length for a checkpoint that is missing, at its first byte for one that is not readable.
-fn start_at(trace: &[u8], operations: u32, k: u32) -> Start {
-    if checkpoints_in(trace, operations) <= k {
-        return wrong(trace.len());
-    }
-    let place = checkpoint_place(operations, k);
-    let end = place + BOARD_SIZE;
-    if trace.len() < end {
-        return wrong(place);
-    }
-    if is_board(&trace[place..end]) {
-        return Start::At(place);
-    }
-    wrong(place)
-}
-
-fn say_fault(out: &mut [u8], fault: Fault) -> Replayed {
+fn say_fault(out: &mut [u8], fault: Fault) -> Replayed
+    ensures { λ r. ⌜ replayed r (now (out .exit)) ≡ inRoom lineRoom (faultLine (faultOf fault)) (now (out .entry)) ⌝ }
+{
     if out.len() < LINE_ROOM {
         return Replayed::Short;
     }
     Replayed::Written(put_sentence(out, 0, Sentence::Fault(fault)))
 }
 
-// The lines of the operations behind the checkpoint, from its board on, and the end line.
-fn lines_from(trace: &[u8], operations: u32, k: u32, place: usize, out: &mut [u8]) -> Replayed {
-    let end = place + BOARD_SIZE;
-    let board = load_board(&trace[place..end]);
-    let first = CHECKPOINT_EVERY * k + CHECKPOINT_EVERY;
+// No replay begins here: refusal 18.
+fn say_wrong(out: &mut [u8], place: usize) -> Replayed
+    ensures { λ r. ⌜ replayed r (now (out .exit)) ≡ inRoom lineRoom (faultLine (record { number = 18; place = place })) (now (out .entry)) ⌝ }
+{
+    say_fault(
+        out,
+        Fault {
+            refusal: Refusal::CheckpointWrong,
+            place,
+        },
+    )
+}
+
+// The lines of the operations from the first index on, from a board on, and the end line.
+fn lines_from(trace: &[u8], board: Board, first: u32, operations: u32, out: &mut [u8]) -> Replayed
+    requires { ⌜ first ≤ operations ⌝ }
+    ensures { λ r. ⌜ replayed r (now (out .exit)) ≡ inRoom (lineRoom * suc (operations - first)) (linesFound (now (trace .entry)) board first operations) (now (out .entry)) ⌝ }
+{
     if out.len() < LINE_ROOM * ((operations - first) as usize + 1) {
         return Replayed::Short;
     }
@@ -65,18 +60,38 @@ fn lines_from(trace: &[u8], operations: u32, k: u32, place: usize, out: &mut [u8
     Replayed::Written(put_sentence(out, told.place, Sentence::End(operations)))
 }
 
+// A missing checkpoint is told of at the whole length, one that is not readable at its first byte.
+fn from_sound(trace: &[u8], head: Head, k: u32, out: &mut [u8]) -> Replayed
+    requires { ⌜ sectionThree (now trace) (head .operations) ≡ sound tt ⌝ }
+    ensures { λ r. ⌜ replayed r (now (out .exit)) ≡ fromFound (now (trace .entry)) (traceFound (now (trace .entry)) head) k (now (out .entry)) ⌝ }
+{
+    let operations = head.operations;
+    if checkpoints_in(trace, operations) <= k {
+        return say_wrong(out, trace.len());
+    }
+    let place = checkpoint_place(operations, k);
+    let end = place + BOARD_SIZE;
+    let part = &trace[place..end];
+    if is_board(part) {
+        let board = load_board(part);
+        return lines_from(
+            trace,
+            board,
+            CHECKPOINT_EVERY * k + CHECKPOINT_EVERY,
+            operations,
+            out,
+        );
+    }
+    say_wrong(out, place)
+}
+
 // What a replay from a checkpoint prints, where the lent bytes have room for it.
-pub fn replay_from_into(trace: &[u8], k: u32, out: &mut [u8]) -> Replayed {
+pub fn replay_from_into(trace: &[u8], k: u32, out: &mut [u8]) -> Replayed
+    ensures { λ r. ⌜ replayed r (now (out .exit)) ≡ replayFromInto (now (trace .entry)) k (now (out .entry)) ⌝ }
+{
     let judged = trace::judge(trace);
     match judged {
         Judged::Refused(fault) => say_fault(out, fault),
-        Judged::Sound(head) => {
-            let operations = head.operations;
-            let start = start_at(trace, operations, k);
-            match start {
-                Start::Wrong(fault) => say_fault(out, fault),
-                Start::At(place) => lines_from(trace, operations, k, place, out),
-            }
-        }
+        Judged::Sound(head) => from_sound(trace, head, k, out),
     }
 }

@@ -2,3 +2,4 @@ pub mod Standing
 pub mod Three
 pub mod Part
 pub mod Calls
+pub mod Loads

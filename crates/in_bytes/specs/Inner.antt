@@ -16,7 +16,7 @@ use Rattle.board.specs.declared.Board.{Board}
 use Rattle.board.specs.Board.{channelAt, withChannel}
 use Rattle.board.specs.Outcome.{Value, Outcome, outputState, countValue, retriggers, dirtyMarks, timerAccum}
 use Rattle.board.specs.Queries.{getTimerAccum}
-use Rattle.board.specs.Making.{fresh}
+use Rattle.board.specs.Making.{new}
 use Rattle.board_encoding.specs.Places.{boardSize}
 use Rattle.board_encoding.specs.Loaded.{boardReadable, boardIn}
 use Rattle.ports.specs.Port.{portOf}
@@ -109,4 +109,4 @@ isBoard bytes = cond (ltb (length bytes) boardSize) false (boardReadable bytes)
 
 -- what the code loads of any bytes: a fresh board of those that are none
 abbrev pub boardFound : List ℕ → Board
-boardFound bytes = cond (isBoard bytes) (boardIn bytes) (fresh Model8253 0)
+boardFound bytes = cond (isBoard bytes) (boardIn bytes) (new Model8253 0 .board)

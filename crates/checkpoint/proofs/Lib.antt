@@ -1,0 +1,3 @@
+pub mod Found
+pub mod Same
+pub mod Sections
