@@ -2,7 +2,7 @@
 use Prim.Native.Nat.{ℕ, zero, suc, _+_, _-_, _*_, _≤_}
 use mathlib.Core.List.{List, [], _∷_, _++_}
 use mathlib.Core.Path.{_≡_, refl, sym, ap, _∙_}
-use native.Mathlib.Nat.{add-zero, add-suc, suc-add, le-of-suc-le-suc}
+use native.Mathlib.Nat.{zero-add, add-zero, le-of-suc-le-suc}
 use native.Mathlib.Omega.{arith}
 use lib.ListN.{length, take, drop}
 use Rattle.board.specs.declared.Board.{Board}
@@ -11,7 +11,10 @@ use Rattle.trace.specs.declared.head.Head.{Head}
 use Rattle.trace.specs.declared.operation.Operation.{Operation}
 use Rattle.trace.specs.Operation.{operationIn}
 use Rattle.recorded.specs.Made.{make, makeAll}
-use Rattle.runner.specs.Inner.{foundFrom}
+use Rattle.runner.specs.declared.Form.{Form}
+use Rattle.runner.specs.declared.Told.{Told}
+use Rattle.runner.specs.Inner.{foundFrom, Telling, telling, Tells}
+use Rattle.runner.proofs.Loop.{board-after}
 use Rattle.checkpoint.specs.Boards.{boardAfter}
 use Rattle.checkpoint.specs.Inner.{traceFound}
 
@@ -43,6 +46,11 @@ pub make-append : (b : Board) (os more : List Operation) → makeAll b (os ++ mo
 make-append b [] more = refl
 make-append b (o ∷ os) more = make-append (make b o .board) os more
 
+-- the board that the loop answers
+pub told-board : {form : Form} {first number : ℕ} {os : List Operation} {start : Board} {place : ℕ} {bytes : List ℕ} {r : Told} {after : List ℕ}
+    → Tells form first number os start place bytes r after → r .board ≡ makeAll start os
+told-board {form} {first} {number} {os} {start} {place} {bytes} t = ap (λ (x : Telling). x .board) (t .tells) ∙ board-after form first os (telling start place bytes)
+
 module _ (bytes : List ℕ) (head : Head) where
   pub board-found : (m : ℕ) → m ≤ head .operations → boardAfter (traceFound bytes head) m ≡ makeAll (fresh (head .model) (head .divisor)) (foundFrom bytes 0 m)
   board-found m h = ap (makeAll (fresh (head .model) (head .divisor))) (found-take bytes 0 m (head .operations) h)
@@ -51,8 +59,8 @@ module _ (bytes : List ℕ) (head : Head) where
   pub board-next : (m n : ℕ) → m + n ≤ head .operations → makeAll (boardAfter (traceFound bytes head) m) (foundFrom bytes m n) ≡ boardAfter (traceFound bytes head) (m + n)
   board-next m n h =
       let start = fresh (head .model) (head .divisor) in
-      let from : 0 + m ≡ m = omega arith in
+      let all : foundFrom bytes 0 (m + n) ≡ foundFrom bytes 0 m ++ foundFrom bytes m n = found-add bytes 0 m n ∙ ap (λ (k : ℕ). foundFrom bytes 0 m ++ foundFrom bytes k n) (zero-add m) in
       ap (λ (b : Board). makeAll b (foundFrom bytes m n)) (board-found m (omega arith))
       ∙ sym (make-append start (foundFrom bytes 0 m) (foundFrom bytes m n))
-      ∙ ap (makeAll start) (sym (found-add bytes 0 m n ∙ rw from refl))
+      ∙ ap (makeAll start) (sym all)
       ∙ sym (board-found (m + n) h)

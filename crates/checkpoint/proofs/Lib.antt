@@ -1,3 +1,9 @@
 pub mod Found
 pub mod Same
 pub mod Sections
+pub mod Rest
+pub mod Texts
+pub mod From
+pub mod Whole
+pub mod Long
+pub mod Lengths

@@ -45,5 +45,8 @@ unfoldable pub printedFrom : List ℕ → ℕ → List ℕ
 printedFrom bytes k = fromJudged bytes k (readTrace bytes) .text
 
 -- docs/ENCODING.md, `pit_replay_from`: into lent bytes of any length
+abbrev pub textInto : Text → List ℕ → Replaying
+textInto t bytes = inRoom (t .room) (t .text) bytes
+
 unfoldable pub replayFromInto : List ℕ → ℕ → List ℕ → Replaying
-replayFromInto trace k bytes = inRoom (fromJudged trace k (readTrace trace) .room) (printedFrom trace k) bytes
+replayFromInto trace k bytes = textInto (fromJudged trace k (readTrace trace)) bytes

@@ -14,9 +14,11 @@ ghost use lib.ListN.{length};
 ghost use Rattle.board_encoding.specs.Places.{boardSize};
 ghost use Rattle.text.specs.Put.{put, answered};
 ghost use Rattle.trace.specs.Sizes.{checkpointsOf};
+ghost use Rattle.trace.specs.Operation.{placeOf};
+ghost use Rattle.trace.specs.Section.{sectionEnd};
 ghost use Rattle.runner.specs.Lent.{replayed};
 ghost use Rattle.checkpoint.specs.Boards.{boardsFrom};
-ghost use Rattle.checkpoint.specs.Mark.{markInto};
+ghost use Rattle.checkpoint.specs.Mark.{markedAs, markInto};
 ghost use Rattle.checkpoint.specs.Inner.{traceFound};
 
 // The boards of the checkpoints, put one after another.
@@ -40,7 +42,22 @@ fn put_boards(trace: &[u8], head: Head, number: u32, out: &mut [u8], place: usiz
     at
 }
 
-// The trace up to its last operation, the count of its checkpoints, and their boards, where the lent bytes have room for them.
+// The trace up to its last operation, the count of its checkpoints, and their boards.
+fn mark_sound(trace: &[u8], head: Head, out: &mut [u8]) -> usize
+    requires { ⌜ placeOf (head .operations) ≤ length (now trace) ⌝ }
+    requires { ⌜ sectionEnd (head .operations) ≤ length (now out) ⌝ }
+    ensures { λ r. ⌜ answered r (now (out .exit)) ≡ put (markedAs (now (trace .entry)) (traceFound (now (trace .entry)) head)) (now (out .entry)) 0 ⌝ }
+{
+    let operations = head.operations;
+    let number = checkpoints_of(operations);
+    let count = numbers::four_bytes(number);
+    let end = place_of(operations);
+    let mut place = text::put(out, 0, &trace[..end]);
+    place = text::put(out, place, &count);
+    put_boards(trace, head, number, out, place)
+}
+
+// The marked trace, where the lent bytes have room for it.
 pub fn mark_into(trace: &[u8], out: &mut [u8]) -> Replayed
     ensures { λ r. ⌜ replayed r (now (out .exit)) ≡ markInto (now (trace .entry)) (now (out .entry)) ⌝ }
 {
@@ -52,15 +69,10 @@ pub fn mark_into(trace: &[u8], out: &mut [u8]) -> Replayed
         }
         Judged::Sound(head) => {
             let operations = head.operations;
-            let number = checkpoints_of(operations);
-            if out.len() < checkpoint_place(operations, number) {
+            if out.len() < checkpoint_place(operations, checkpoints_of(operations)) {
                 return Replayed::Short;
             }
-            let end = place_of(operations);
-            let count = numbers::four_bytes(number);
-            let mut place = text::put(out, 0, &trace[..end]);
-            place = text::put(out, place, &count);
-            Replayed::Written(put_boards(trace, head, number, out, place))
+            Replayed::Written(mark_sound(trace, head, out))
         }
     }
 }
