@@ -11,10 +11,7 @@ use Rattle.trace.specs.declared.head.Head.{Head}
 use Rattle.trace.specs.declared.operation.Operation.{Operation}
 use Rattle.trace.specs.Operation.{operationIn}
 use Rattle.recorded.specs.Made.{make, makeAll}
-use Rattle.runner.specs.declared.Form.{Form}
-use Rattle.runner.specs.declared.Told.{Told}
-use Rattle.runner.specs.Inner.{foundFrom, Telling, telling, Tells}
-use Rattle.runner.proofs.Loop.{board-after}
+use Rattle.runner.specs.Inner.{foundFrom}
 use Rattle.checkpoint.specs.Boards.{boardAfter}
 use Rattle.checkpoint.specs.Inner.{traceFound}
 
@@ -45,11 +42,6 @@ found-add bytes i (suc m) n =
 pub make-append : (b : Board) (os more : List Operation) → makeAll b (os ++ more) ≡ makeAll (makeAll b os) more
 make-append b [] more = refl
 make-append b (o ∷ os) more = make-append (make b o .board) os more
-
--- the board that the loop answers
-pub told-board : {form : Form} {first number : ℕ} {os : List Operation} {start : Board} {place : ℕ} {bytes : List ℕ} {r : Told} {after : List ℕ}
-    → Tells form first number os start place bytes r after → r .board ≡ makeAll start os
-told-board {form} {first} {number} {os} {start} {place} {bytes} t = ap (λ (x : Telling). x .board) (t .tells) ∙ board-after form first os (telling start place bytes)
 
 module _ (bytes : List ℕ) (head : Head) where
   pub board-found : (m : ℕ) → m ≤ head .operations → boardAfter (traceFound bytes head) m ≡ makeAll (fresh (head .model) (head .divisor)) (foundFrom bytes 0 m)

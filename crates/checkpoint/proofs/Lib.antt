@@ -5,5 +5,9 @@ pub mod Rest
 pub mod Texts
 pub mod From
 pub mod Whole
-pub mod Long
 pub mod Lengths
+pub mod Exactly
+pub mod Passes
+pub mod Ranges
+pub mod Alike
+pub mod Marked

@@ -1,5 +1,5 @@
 -- Document 02, L7: when the full check refuses, and where, as rows in the order in which they are tested (trace/specs/Refusals.antt).
-use Prim.Native.Nat.{ℕ, zero, suc}
+use Prim.Native.Nat.{ℕ, zero, suc, _<_}
 use mathlib.Core.List.{List, [], _∷_, _++_}
 use mathlib.Core.Path.{_≡_}
 use Rattle.board_encoding.specs.Stored.{boardBytes}
@@ -13,6 +13,10 @@ use Rattle.checkpoint.specs.Boards.{size, checkpoint, checkpointBytes, c
 abbrev pub checkpointDiffers : List ℕ → Trace → ℕ → Row
 checkpointDiffers bytes t k =
     record { fault = faultAt 18 (checkpointPlace (size t) k); condition = checkpointBytes bytes (size t) k ≡ boardBytes (checkpoint t k) → ⊥ }
+
+-- some checkpoint of a trace has other bytes than its board
+abbrev pub Differs : List ℕ → Trace → Type 0
+Differs bytes t = (k : ℕ) × (k < checkpointsIn bytes (size t)) × (checkpointBytes bytes (size t) k ≡ boardBytes (checkpoint t k) → ⊥)
 
 -- from checkpoint k on, as many as are left
 abbrev pub checkpointRows : List ℕ → Trace → ℕ → ℕ → List Row

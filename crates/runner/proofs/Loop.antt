@@ -36,7 +36,7 @@ pub put-nothing : (bytes : List ℕ) (place : ℕ) → put [] bytes place ≡ an
 unfolding put
 put-nothing bytes place = nothing-by bytes place (ltb (length bytes) (place + 0))
 
-pub board-after : (form : Form) (index : ℕ) (os : List Operation) (t : Telling) → tellAll form index os t .board ≡ makeAll (t .board) os
+board-after : (form : Form) (index : ℕ) (os : List Operation) (t : Telling) → tellAll form index os t .board ≡ makeAll (t .board) os
 board-after form index [] t = refl
 board-after form index (o ∷ os) t = board-after form (suc index) os (tellOne form index t o)
 
@@ -77,14 +77,17 @@ module _ (trace : List ℕ) (first number : ℕ) (all : soundness (operationsFro
   pub found-are : foundFrom trace first number ≡ toTell trace first number
   found-are = subst (OfSound (λ (os : List Operation). foundFrom trace first number ≡ os)) are (all-found trace first number)
 
--- what the loop answers, where there is room for all that can be said
+-- the board that the loop answers
+pub told-board : {form : Form} {first number : ℕ} {os : List Operation} {start : Board} {place : ℕ} {bytes : List ℕ} {r : Told} {after : List ℕ}
+    → Tells form first number os start place bytes r after → r .board ≡ makeAll start os
+told-board {form} {first} {number} {os} {start} {place} {bytes} t = ap (λ (x : Telling). x .board) (t .tells) ∙ board-after form first os (telling start place bytes)
+
+-- what the loop says, where there is room for all that can be said
 pub told-whole : (form : Form) (first number : ℕ) (os : List Operation) (start : Board) (place : ℕ) (bytes : List ℕ) (r : Told) (after : List ℕ)
     → Tells form first number os start place bytes r after → place + roomOf form * number ≤ length bytes
-    → Puts (toldFrom form start first os) (roomOf form * number) bytes place (r .place) after × (r .board ≡ makeAll start os)
-told-whole form first number os start place bytes r after t room = (
-  record {
-    told = ap (λ (x : Telling). x .text) (t .tells) ∙ text-after form first os start place bytes (within place (roomOf form * number) (length bytes) _ room (t .shortly));
-    short = t .shortly;
-  },
-  ap (λ (x : Telling). x .board) (t .tells) ∙ board-after form first os (telling start place bytes),
-)
+    → Puts (toldFrom form start first os) (roomOf form * number) bytes place (r .place) after
+told-whole form first number os start place bytes r after t room =
+    record {
+      told = ap (λ (x : Telling). x .text) (t .tells) ∙ text-after form first os start place bytes (within place (roomOf form * number) (length bytes) _ room (t .shortly));
+      short = t .shortly;
+    }

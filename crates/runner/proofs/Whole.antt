@@ -41,7 +41,7 @@ pub told-sound : (form : Form) (trace : List ℕ) (number : ℕ) → soundness (
 told-sound form trace number all start place bytes r after t room =
     let every : number - 0 ≡ number = omega arith in
     let found : Tells form 0 number (foundFrom trace 0 number) start place bytes r after = subst (λ (n : ℕ). Tells form 0 n (foundFrom trace 0 n) start place bytes r after) every t in
-    told-whole form 0 number (toTell trace 0 number) start place bytes r after (subst (λ (os : List Operation). Tells form 0 number os start place bytes r after) (found-are trace 0 number all) found) room .0
+    told-whole form 0 number (toTell trace 0 number) start place bytes r after (subst (λ (os : List Operation). Tells form 0 number os start place bytes r after) (found-are trace 0 number all) found) room
 
 -- a line that is put is its text put
 pub line-put : (line : Line) (text bytes : List ℕ) (place place₁ : ℕ) (bytes₁ : List ℕ) → line ≡ lineOf text

@@ -11,3 +11,4 @@ pub mod Refusals
 pub mod Apart
 pub mod Sound
 pub mod Only
+pub mod Long

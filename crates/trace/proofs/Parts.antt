@@ -40,7 +40,7 @@ past-first (r ∷ rows) more f none =
     (⊎-elim (λ here. absurd (none .0 (here .1))) (λ later. others .0 (later .1)), λ first. inr (none .0, others .1 first))
 
 pub then-decided : {A B : Type 0} (j : Judgement A) (after : A → Judgement B) (rows more : List Row) (f : Faulted)
-    → ((g : Faulted) → Decided j rows g) → ((a : A) → Decided (after a) more f) → Decided (andThen j after) (rows ++ more) f
+    → ((g : Faulted) → Decided j rows g) → ((a : A) → j ≡ sound a → Decided (after a) more f) → Decided (andThen j after) (rows ++ more) f
 then-decided (refusedBy g) after rows more f first second =
     let is = first g .exactly .0 refl in
     record {
@@ -49,7 +49,8 @@ then-decided (refusedBy g) after rows more f first second =
 then-decided (sound a) after rows more f first second =
     let none = none-holds rows (λ g holds. not-refused a g (first g .exactly .1 holds)) in
     let same = past-first rows more f none in
-    record { exactly = (λ e. same .1 (second a .exactly .0 e), λ found. second a .exactly .1 (same .0 found)) }
+    let then = second a refl in
+    record { exactly = (λ e. same .1 (then .exactly .0 e), λ found. then .exactly .1 (same .0 found)) }
 
 -- rows that count only where P holds
 where-it-holds : (P : Type 0) → P → (rows : List Row) (f : Faulted) → FirstAt (map (only P) rows) f ↔ FirstAt rows f

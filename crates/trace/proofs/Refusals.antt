@@ -108,8 +108,8 @@ trace-decided : (bytes : List ℕ) (f : Faulted) → Decided (readTrace bytes) (
 unfolding readTrace readHead
 trace-decided bytes f =
     let at = numberAt bytes in
-    let behind : (os : List Operation) → Decided (andThen (sectionThree bytes (at 12)) (λ there. sound (traceOf (headOf bytes) os))) (sectionOrder bytes (at 12)) f
-    = λ os. made-of (sectionThree bytes (at 12)) (λ there. traceOf (headOf bytes) os) _ f (section-decided bytes (at 12) f) in
+    let behind : (os : List Operation) → operationsFrom bytes 0 (at 12) ≡ sound os → Decided (andThen (sectionThree bytes (at 12)) (λ there. sound (traceOf (headOf bytes) os))) (sectionOrder bytes (at 12)) f
+    = λ os is. made-of (sectionThree bytes (at 12)) (λ there. traceOf (headOf bytes) os) _ f (section-decided bytes (at 12) f) in
     simp (of-pick (λ (j : Judgement Head). andThen j (afterHead bytes)))
     (field-decided bytes 0 (settingsCount bytes) (not (eqb (at 0) 2)) _ _ f (breaks _ (is (at 0) 2))
     (field-decided bytes 4 (divisorZero bytes) (eqb (at 4) 0) _ _ f (equal (at 4) 0)

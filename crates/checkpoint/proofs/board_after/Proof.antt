@@ -1,6 +1,6 @@
 -- `checkpoint::board_after` meets its contract. Assumes nothing.
 use borrow.Author.Needs.{needs}
-use Rattle.checkpoint.proofs.Found.{told-board}
+use Rattle.runner.proofs.Loop.{told-board}
 use Rattle.checkpoint.proofs.board_after.Statement.{statement}
 use Rattle.checkpoint.proofs.board_after.Tie as tie
 

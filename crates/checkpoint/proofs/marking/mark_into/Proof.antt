@@ -14,6 +14,7 @@ use Rattle.trace.specs.Section.{sectionEnd, checkpointPlace}
 use Rattle.trace.specs.Trace.{readTrace}
 use Rattle.trace.specs.Answer.{faultOf, headJudged}
 use Rattle.trace.proofs.Sound.{judged-sound, judged-refused}
+use Rattle.trace.proofs.Long.{trace-long}
 use Rattle.runner.proofs.Whole.{prints}
 use Rattle.runner.proofs.Lent.{no-room, in-room}
 use Rattle.checkpoint.specs.Boards.{size}
@@ -21,7 +22,6 @@ use Rattle.checkpoint.specs.Inner.{traceFound}
 use Rattle.checkpoint.specs.Mark.{mark, markedAs, markInto}
 use Rattle.checkpoint.proofs.Found.{found-length}
 use Rattle.checkpoint.proofs.Lengths.{marked-length}
-use Rattle.checkpoint.proofs.Long.{trace-long}
 use Rattle.checkpoint.proofs.Whole.{trace-found}
 use Rattle.checkpoint.proofs.marking.mark_into.Statement.{statement}
 use Rattle.checkpoint.proofs.marking.mark_into.Tie as tie

@@ -10,15 +10,14 @@ use lib.ListN.{length}
 use borrow.Author.Tests.{ltb-false}
 use Rattle.channel.proofs.Pick.{pick-holds, pick-knowing}
 use Rattle.numbers.specs.Number.{numberAt}
 use Rattle.trace.specs.declared.head.Head.{Head}
 use Rattle.trace.specs.declared.operation.Operation.{Operation}
 use Rattle.trace.specs.Judgement.{Judgement, refusedBy, sound, andThen}
 use Rattle.trace.specs.Head.{readHead}
 use Rattle.trace.specs.Operation.{placeOf, sixBytes, operationAt}
 use Rattle.trace.specs.Section.{sectionThree}
 use Rattle.trace.specs.Trace.{Trace, before, operationsFrom, traceOf, afterHead, readTrace}
 use Rattle.trace.proofs.Values.{OfSound, anyhow, through}
-use Rattle.checkpoint.specs.Boards.{size}
 
 head-long : (bytes : List ℕ) → OfSound (λ (h : Head). placeOf 0 ≤ length bytes) (readHead bytes)
 unfolding readHead
@@ -54,10 +53,10 @@ operations-long bytes i (suc n) h =
     through (Stand bytes (suc i) n) (Stand bytes i (suc n)) (operationsFrom bytes (suc i) n) (λ os. sound (o ∷ os)) (operations-long bytes (suc i) n first)
     (λ os all. (ap suc (all .0), subst (λ (k : ℕ). placeOf k ≤ length bytes) next (all .1))))
 
-pub trace-long : (bytes : List ℕ) (t : Trace) → readTrace bytes ≡ sound t → placeOf (size t) ≤ length bytes
+pub trace-long : (bytes : List ℕ) (t : Trace) → readTrace bytes ≡ sound t → placeOf (length (t .operations)) ≤ length bytes
 unfolding readTrace
 trace-long bytes t is =
-    let P : Trace → Type 0 = λ t. placeOf (size t) ≤ length bytes in
+    let P : Trace → Type 0 = λ t. placeOf (length (t .operations)) ≤ length bytes in
     let whole : OfSound P (andThen (readHead bytes) (afterHead bytes)) =
     through (λ (h : Head). placeOf 0 ≤ length bytes) P (readHead bytes) (afterHead bytes) (head-long bytes)
     (λ h first.
