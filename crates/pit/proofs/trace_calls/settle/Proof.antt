@@ -12,6 +12,9 @@ returns c =
     let written = c .before .before .before .before .before .before .before .replayed .given .1 in
     (simp written, c .before .before .put-front .ensures .1 ∙ ap (λ l. putFront l (now (a .answer))) (c .before .before .before .before .before .board-answer-bytes .ensures) ∙ simp written)
 
+returns-2 : tie.Need-returns-2
+returns-2 c = let refused = c .before .before .replayed2 .given .1 in (simp (c .number .ensures, refused), simp refused)
+
 pub settle-spec : {M : Type 1} → statement M
 settle-spec =
     tie.close
@@ -26,5 +29,5 @@ settle-spec =
     (λ c. search needs)
     (λ c. search needs)
     returns
-    (λ c. search needs)
+    returns-2
     (λ c. search needs))
