@@ -6,6 +6,7 @@ pub mod Texts
 pub mod From
 pub mod Whole
 pub mod Lengths
+pub mod Apart
 pub mod Exactly
 pub mod Passes
 pub mod Ranges

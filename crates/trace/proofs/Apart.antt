@@ -12,10 +12,10 @@ use Rattle.trace.specs.declared.operation.OperationJudged.the-variants a
 use Rattle.trace.specs.Judgement.{Judgement, Faulted, refusedBy, sound}
 use Rattle.trace.specs.Answer.{faultOf, headJudged, operationJudged}
 
-abbrev faultFrom : Faulted → Fault
+abbrev pub faultFrom : Faulted → Fault
 faultFrom f = record { refusal = refusalNumbered (f .number); place = f .place }
 
-fault-back : (f : Fault) → faultFrom (faultOf f) ≡ f
+pub fault-back : (f : Fault) → faultFrom (faultOf f) ≡ f
 fault-back f = λ i. record { refusal = numbered-back (f .refusal) i; place = f .place }
 
 abbrev judgedOf : Judgement Head → Judged
