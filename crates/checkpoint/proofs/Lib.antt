@@ -12,3 +12,4 @@ pub mod Passes
 pub mod Ranges
 pub mod Alike
 pub mod Marked
+pub mod Enough

@@ -19,7 +19,7 @@ use Rattle.checkpoint.specs.Boards.{checkpointsIn}
 use Rattle.checkpoint.specs.Inner.{Standing}
 
 -- where the section is begun, the bytes end with it
-ends-begun : (bytes : List ℕ) (n : ℕ) → sectionThree bytes n ≡ sound tt → ltb (placeOf n) (length bytes) ≡ true → length bytes ≡ sectionEnd n
+pub ends-begun : (bytes : List ℕ) (n : ℕ) → sectionThree bytes n ≡ sound tt → ltb (placeOf n) (length bytes) ≡ true → length bytes ≡ sectionEnd n
 unfolding sectionThree
 ends-begun bytes n is begun =
     let P : Judgement Unit → Type 0 = OfSound (λ (u : Unit). length bytes ≡ sectionEnd n) in
