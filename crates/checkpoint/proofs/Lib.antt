@@ -10,6 +10,7 @@ pub mod Apart
 pub mod Exactly
 pub mod Passes
 pub mod Ranges
-pub mod Alike
 pub mod Marked
+pub mod Alike
 pub mod Enough
+pub mod Numbers

@@ -19,7 +19,7 @@ use Rattle.trace.specs.Sizes.{checkpointsOf}
 use Rattle.trace.specs.Operation.{placeOf}
 use Rattle.trace.specs.Section.{checkpointPlace, sectionEnd, sectionThree}
 use Rattle.trace.specs.Trace.{Trace, readTrace}
-use Rattle.trace.specs.Bytes.{AllBytes, traceBytes, behind, Writable}
+use Rattle.trace.specs.Bytes.{AllBytes, traceBytes, behind, counted, Writable}
 use Rattle.trace.proofs.Back.{trace-long, read-back-with}
 use Rattle.trace.proofs.Only.{only-form}
 use Rattle.checkpoint.specs.Boards.{size, checkpoint, boardsFrom, sectionOf, checkpointBytes, checkpointsIn}
@@ -27,15 +27,6 @@ use Rattle.checkpoint.specs.Check.{check}
 use Rattle.checkpoint.specs.Mark.{markedAs, mark}
 use Rattle.checkpoint.proofs.Lengths.{boards-length}
 use Rattle.checkpoint.proofs.Passes.{Right, passes}
-
--- a number behind other bytes
-number-behind : (front rest : List ℕ) (n : ℕ) → n < 4294967296 → (place : ℕ) → length front ≡ place → numberAt (front ++ (fourBytes n ++ rest)) place ≡ n
-unfolding numberAt
-number-behind front rest n fits place e =
-    let here = fourBytes n ++ rest in
-    let at : (k p : ℕ) → length front + k ≡ p → getD (front ++ here) p 0 ≡ getD here k 0
-    = λ k p q. subst (λ (m : ℕ). getD (front ++ here) m 0 ≡ getD here k 0) q (getD-append-add front here k 0) in
-    simp (at 0 place (omega arith), at 1 (place + 1) (omega arith), at 2 (place + 2) (omega arith), at 3 (place + 2 + 1) (omega arith)) (long-back n fits)
 
 -- one board out of many
 board-part : (t : Trace) (k left i : ℕ) → i < left → take boardSize (drop (boardSize * i) (boardsFrom t k left)) ≡ boardBytes (checkpoint t (k + i))
@@ -70,27 +61,11 @@ module _ (t : Trace) (w : Writable t) where
       let section = length-append (fourBytes count) (boardsFrom t 0 count) in
       omega (arith, front)
 
-  fits : count < 4294967296
-  fits = let few = w .not-too-many in omega arith
-
-  section-kept : sectionThree marked n ≡ sound tt
-  unfolding sectionThree
-  section-kept =
-      let end = long in
-      simp (
-        lt-ltb (placeOf n) (length marked) (omega arith),
-        le-ltb (length marked) (placeOf n + 4) (omega arith),
-        number-behind (traceBytes t) (boardsFrom t 0 count) count fits (placeOf n) front,
-        eq-eqb count count refl,
-        le-ltb (length marked) (sectionEnd n) (omega arith),
-        le-ltb (sectionEnd n) (length marked) (omega arith),
-      )
-
   pub marked-read : readTrace marked ≡ sound t
-  marked-read = read-back-with t w (sectionOf t) section-kept
+  marked-read = read-back-with t w (counted (boardsFrom t 0 count) (boards-length t 0 count))
 
-  counted : checkpointsIn marked n ≡ count
-  counted = let end = long in simp (lt-ltb (placeOf n) (length marked) (omega arith))
+  counts-them : checkpointsIn marked n ≡ count
+  counts-them = let end = long in simp (lt-ltb (placeOf n) (length marked) (omega arith))
 
   right : Right marked t 0 count
   right i h =
@@ -102,7 +77,7 @@ module _ (t : Trace) (w : Writable t) where
       ap (take boardSize) (ap (λ (k : ℕ). drop (checkpointPlace n k) marked) (zero-add i) ∙ there) ∙ board-part t 0 count i h
 
   pub marked-passes : check marked ≡ sound count
-  marked-passes = rw counted at (passes marked t marked-read (rw counted right))
+  marked-passes = rw counts-them at (passes marked t marked-read (rw counts-them right))
 
 -- what marking makes of the bytes of a sound trace
 module _ (bytes : List ℕ) (all : AllBytes bytes) (t : Trace) (is : readTrace bytes ≡ sound t) where

@@ -38,7 +38,7 @@ by-both false false there back = refl
 pub same-by : (r : Bool) (xs ys : List ℕ) → (r ≡ true → xs ≡ ys) → (xs ≡ ys → r ≡ true) → r ≡ sameBytes xs ys
 same-by r xs ys there back = by-both r (sameBytes xs ys) (λ e. is-same xs ys (there e)) (λ e. back (same-is xs ys e))
 
-not-means : (a : Bool) → (not a ≡ true) ↔ (a ≡ true → ⊥)
+pub not-means : (a : Bool) → (not a ≡ true) ↔ (a ≡ true → ⊥)
 not-means true = (λ e. absurd (false≢true e), λ fails. absurd (fails refl))
 not-means false = (λ e. λ h. false≢true h, λ fails. refl)
 

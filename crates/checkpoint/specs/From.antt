@@ -40,6 +40,10 @@ abbrev pub fromJudged : List ℕ → ℕ → Judgement Trace → Text
 fromJudged bytes k (refusedBy f) = record { text = faultLine f; room = lineRoom }
 fromJudged bytes k (sound t) = fromText t k (startAt bytes (size t) k)
 
+-- the board that the replay from checkpoint k begins with, or why there is none
+abbrev pub startOf : List ℕ → ℕ → Judgement Board
+startOf bytes k = andThen (readTrace bytes) (λ t. startAt bytes (size t) k)
+
 -- what the replay from checkpoint k prints
 unfoldable pub printedFrom : List ℕ → ℕ → List ℕ
 printedFrom bytes k = fromJudged bytes k (readTrace bytes) .text

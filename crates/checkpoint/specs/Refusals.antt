@@ -1,8 +1,11 @@
--- Document 02, L7: when the full check refuses, and where, as rows in the order in which they are tested (trace/specs/Refusals.antt).
-use Prim.Native.Nat.{ℕ, zero, suc, _<_}
+-- Document 02, L7: when the full check and a replay from a checkpoint refuse, and where, as rows in the order in which they are tested (trace/specs/Refusals.antt).
+use Prim.Native.Nat.{ℕ, zero, suc, _<_, _≤_}
+use mathlib.Core.Bool.{true}
 use mathlib.Core.List.{List, [], _∷_, _++_}
 use mathlib.Core.Path.{_≡_}
+use lib.ListN.{length}
 use Rattle.board_encoding.specs.Stored.{boardBytes}
+use Rattle.board_encoding.specs.Loaded.{boardReadable}
 use Rattle.trace.specs.Judgement.{Judgement, refusedBy, sound, faultAt}
 use Rattle.trace.specs.Section.{checkpointPlace}
 use Rattle.trace.specs.Trace.{Trace, readTrace}
@@ -30,3 +33,19 @@ checkRows bytes (sound t) = checkpointRows bytes t 0 (checkpointsIn bytes (size 
 
 abbrev pub checkOrder : List ℕ → List Row
 checkOrder bytes = order bytes ++ checkRows bytes (readTrace bytes)
+
+-- 18: "for a replay from one that is missing", at the whole length ..
+abbrev pub checkpointMissing : List ℕ → ℕ → ℕ → Row
+checkpointMissing bytes operations k = record { fault = faultAt 18 (length bytes); condition = checkpointsIn bytes operations ≤ k }
+
+-- .. "or unreadable", at its first byte
+abbrev pub checkpointUnreadable : List ℕ → ℕ → ℕ → Row
+checkpointUnreadable bytes operations k =
+    record { fault = faultAt 18 (checkpointPlace operations k); condition = boardReadable (checkpointBytes bytes operations k) ≡ true → ⊥ }
+
+abbrev pub fromRows : List ℕ → ℕ → Judgement Trace → List Row
+fromRows bytes k (refusedBy f) = []
+fromRows bytes k (sound t) = checkpointMissing bytes (size t) k ∷ checkpointUnreadable bytes (size t) k ∷ []
+
+abbrev pub fromOrder : List ℕ → ℕ → List Row
+fromOrder bytes k = order bytes ++ fromRows bytes k (readTrace bytes)

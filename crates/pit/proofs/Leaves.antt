@@ -23,6 +23,10 @@ use Rattle.in_bytes.specs.Called.{boardAnswerSize, Calling, calling, making, ca
 use Rattle.runner.specs.declared.Form.the-variants.{Answers}
 use Rattle.runner.specs.Printed.{roomOf, printed}
 use Rattle.runner.specs.Lent.{Replaying, inRoom, roomFor, answersOf, answersJudged, replayInto, answersInto}
+use Rattle.line.specs.Line.{lineRoom}
+use Rattle.checkpoint.specs.Check.{check, checkedText, checkInto}
+use Rattle.checkpoint.specs.From.{Text, fromJudged, textInto, replayFromInto}
+use Rattle.checkpoint.specs.Mark.{mark, markJudged, markInto}
 use Rattle.pit.specs.Board.{BoardCalled, answeredBy, boardOperation, newStatus, newAfter}
 use Rattle.pit.specs.Trace.{ReplayCalled, replayCalled, replyAfter, replayCall}
 
@@ -107,3 +111,34 @@ module _ (out answer : List ℕ) where
   pub answers-call-leaves : (trace : List ℕ) → (replayCall (answersInto trace out) out answer .status ≡ 0 → ⊥)
       → ReplayLeft (replayCall (answersInto trace out) out answer) out answer
   answers-call-leaves trace = replay-leaves (answersInto trace out) (answers-leave trace) (ltb (length answer) boardAnswerSize) refl
+
+  text-leaves : (t : Text) → Leaves (textInto t out) out
+  text-leaves t = room-leaves-out (t .room) (t .text) (ltb (length out) (t .room)) refl
+
+  from-leaves : (trace : List ℕ) (k : ℕ) → Leaves (replayFromInto trace k out) out
+  unfolding replayFromInto
+  from-leaves trace k = text-leaves (fromJudged trace k (readTrace trace))
+
+  check-leaves : (trace : List ℕ) → Leaves (checkInto trace out) out
+  unfolding checkInto
+  check-leaves trace = room-leaves-out lineRoom (checkedText (check trace)) (ltb (length out) lineRoom) refl
+
+  marked-leaves : (judged : Judgement (List ℕ)) → Leaves (markJudged judged out) out
+  marked-leaves (refusedBy f) = λ n told. refl
+  marked-leaves (sound marked) = room-leaves-out (length marked) marked (ltb (length out) (length marked)) refl
+
+  mark-leaves : (trace : List ℕ) → Leaves (markInto trace out) out
+  unfolding markInto
+  mark-leaves trace = marked-leaves (mark trace)
+
+  pub from-call-leaves : (trace : List ℕ) (k : ℕ) → (replayCall (replayFromInto trace k out) out answer .status ≡ 0 → ⊥)
+      → ReplayLeft (replayCall (replayFromInto trace k out) out answer) out answer
+  from-call-leaves trace k = replay-leaves (replayFromInto trace k out) (from-leaves trace k) (ltb (length answer) boardAnswerSize) refl
+
+  pub check-call-leaves : (trace : List ℕ) → (replayCall (checkInto trace out) out answer .status ≡ 0 → ⊥)
+      → ReplayLeft (replayCall (checkInto trace out) out answer) out answer
+  check-call-leaves trace = replay-leaves (checkInto trace out) (check-leaves trace) (ltb (length answer) boardAnswerSize) refl
+
+  pub mark-call-leaves : (trace : List ℕ) → (replayCall (markInto trace out) out answer .status ≡ 0 → ⊥)
+      → ReplayLeft (replayCall (markInto trace out) out answer) out answer
+  mark-call-leaves trace = replay-leaves (markInto trace out) (mark-leaves trace) (ltb (length answer) boardAnswerSize) refl

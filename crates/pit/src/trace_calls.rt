@@ -54,14 +54,14 @@ pub extern "C" fn pit_replay_from(
     trace: &[u8],
     out: &mut [u8],
     answer: &mut [u8],
-    first: u32,
+    checkpoint: u32,
 ) -> u32
-    ensures { λ r. ⌜ replayCalled r (now (out .exit)) (now (answer .exit)) ≡ replayCall (replayFromInto (now (trace .entry)) first (now (out .entry))) (now (out .entry)) (now (answer .entry)) ⌝ }
+    ensures { λ r. ⌜ replayCalled r (now (out .exit)) (now (answer .exit)) ≡ replayCall (replayFromInto (now (trace .entry)) checkpoint (now (out .entry))) (now (out .entry)) (now (answer .entry)) ⌝ }
 {
     if answer.len() < BOARD_ANSWER_SIZE {
         return SHORT_ANSWER;
     }
-    let replayed = checkpoint::replay_from_into(trace, first, out);
+    let replayed = checkpoint::replay_from_into(trace, checkpoint, out);
     settle(replayed, answer)
 }
 

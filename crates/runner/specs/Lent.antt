@@ -39,7 +39,7 @@ replayInto trace bytes = inRoom (roomFor (readTrace trace)) (printed trace) byte
 abbrev pub answersOf : Trace → List ℕ
 answersOf t = toldFrom Answers (fresh (t .model) (t .divisor)) 0 (t .operations)
 
--- "3 and 9 to 14 of the trace, 105"; "16 for each operation"
+-- "3, 9 to 14 and 17 of the trace, 105"; "16 for each operation"
 abbrev pub answersJudged : Judgement Trace → List ℕ → Replaying
 answersJudged (refusedBy f) bytes = record { reply = refused (f .number); bytes = bytes }
 answersJudged (sound t) bytes = inRoom (roomOf Answers * length (t .operations)) (answersOf t) bytes

@@ -1,7 +1,7 @@
 // A replay into lent bytes of any length.
 use crate::Form;
 use crate::answering::TRACE_ANSWER_SIZE;
-use crate::put_line;
+use crate::put_sentence;
 use crate::replay_sound;
 use crate::tell;
 use board::Board;
@@ -31,8 +31,7 @@ pub fn replay_into(trace: &[u8], out: &mut [u8]) -> Replayed
             if out.len() < LINE_ROOM {
                 return Replayed::Short;
             }
-            let line = line::line_of(Sentence::Fault(fault));
-            Replayed::Written(put_line(out, 0, line))
+            Replayed::Written(put_sentence(out, 0, Sentence::Fault(fault)))
         }
         Judged::Sound(head) => {
             if out.len() < LINE_ROOM * (head.operations as usize + 2) {

@@ -88,8 +88,10 @@ fn say(
     ensures { λ r. ⌜ Puts (said form index (replyOf answer) events (left .0)) (roomOf form) (now (out .entry)) place r (now (out .exit)) ⌝ }
 {
     match form {
-        Form::Lines => {
-            let line = line::line_of(Sentence::Operation(
+        Form::Lines => put_sentence(
+            out,
+            place,
+            Sentence::Operation(
                 index,
                 answer,
                 events[0],
@@ -99,9 +101,8 @@ fn say(
                 events[4],
                 events[5],
                 left,
-            ));
-            put_line(out, place, line)
-        }
+            ),
+        ),
         Form::Answers => {
             let bytes = answering::trace_answer_bytes(answer, events, left);
             text::put(out, place, &bytes)
@@ -338,11 +339,9 @@ fn replay_sound(trace: &[u8], head: Head, out: &mut [u8]) -> usize
     let number = head.operations;
     let made = Board::new(model, head.divisor);
     let board = made.board;
-    let first = line::line_of(Sentence::Head(model, head.divisor));
-    let place = put_line(out, 0, first);
+    let place = put_sentence(out, 0, Sentence::Head(model, head.divisor));
     let told = tell(Form::Lines, trace, board, 0, number, out, place);
-    let last = line::line_of(Sentence::End(number));
-    put_line(out, told.place, last)
+    put_sentence(out, told.place, Sentence::End(number))
 }
 
 // How many bytes are printed. They stand at the front; the rest stays as it was.
@@ -352,10 +351,7 @@ pub fn replay(trace: &[u8], out: &mut [u8; TEXT_ROOM]) -> usize
 {
     let judged = trace::judge(trace);
     match judged {
-        Judged::Refused(fault) => {
-            let line = line::line_of(Sentence::Fault(fault));
-            put_line(out, 0, line)
-        }
+        Judged::Refused(fault) => put_sentence(out, 0, Sentence::Fault(fault)),
         Judged::Sound(head) => replay_sound(trace, head, out),
     }
 }

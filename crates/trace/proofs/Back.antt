@@ -1,5 +1,5 @@
--- A trace that can be written down is read back from its bytes, with a sound section three behind them or with none, so that equal bytes are of equal traces. Assumes
--- nothing.
+-- A trace that can be written down is read back from its bytes, with any section three of the form behind them or with none, so that equal bytes are of equal traces.
+-- Assumes nothing.
 use Prim.Native.Nat.{ℕ, suc, _+_, _*_, _<_, _≤_}
 use mathlib.Core.Path.{_≡_, refl, sym, subst}
 use mathlib.Core.Bool.{true, false}
@@ -8,7 +8,7 @@ use native.Mathlib.Omega.{arith}
 use lib.ListN.{length, getD, length-append}
 use lib.Seq.{getD-append-add}
 use lib.Dec.{ltb}
-use borrow.Author.Tests.{le-ltb, ne-eqb}
+use borrow.Author.Tests.{lt-ltb, le-ltb, eq-eqb, ne-eqb}
 use Rattle.numbers.specs.Little.{fourBytes}
 use Rattle.numbers.proofs.Little.{long-back}
 use Rattle.channel.specs.declared.PitType.{PitType}
@@ -22,9 +22,10 @@ use Rattle.channel.proofs.Models.{model-back}
 use Rattle.trace.specs.Head.{readHead}
 use Rattle.trace.specs.Rule.{brokenRule}
 use Rattle.trace.specs.Operation.{operationOf, placeOf, operationAt}
-use Rattle.trace.specs.Section.{sectionThree}
+use Rattle.trace.specs.Sizes.{checkpointsOf}
+use Rattle.trace.specs.Section.{sectionEnd, sectionThree}
 use Rattle.trace.specs.Trace.{Trace, operationsFrom, readTrace}
-use Rattle.trace.specs.Bytes.{six, operationBytes, operationsBytes, traceBytes, Holds, AllHold, Writable}
+use Rattle.trace.specs.Bytes.{six, operationBytes, operationsBytes, traceBytes, SectionForm, missing, counted, Holds, AllHold, Writable}
 
 -- four numbers by their rules, with the bytes that they need
 head-from : (bytes : List ℕ) (divisor : ℕ) (model : PitType) (operations : ℕ) → 16 ≤ length bytes → numberAt bytes 0 ≡ 2 → numberAt bytes 4 ≡ divisor
@@ -108,6 +109,33 @@ operations-back front i (o ∷ os) rest e h =
     (rw (sym (append-assoc front (operationBytes o) (operationsBytes os ++ rest)))
     (rw (operations-back (front ++ operationBytes o) (suc i) os rest (omega arith) (h .1)) refl)))
 
+-- a number behind other bytes
+number-behind : (front rest : List ℕ) (n : ℕ) → n < 4294967296 → (place : ℕ) → length front ≡ place → numberAt (front ++ (fourBytes n ++ rest)) place ≡ n
+unfolding numberAt
+number-behind front rest n fits place e =
+    let here = fourBytes n ++ rest in
+    let at : (k p : ℕ) → length front + k ≡ p → getD (front ++ here) p 0 ≡ getD here k 0
+    = λ k p q. subst (λ (m : ℕ). getD (front ++ here) m 0 ≡ getD here k 0) q (getD-append-add front here k 0) in
+    simp (at 0 place (omega arith), at 1 (place + 1) (omega arith), at 2 (place + 2) (omega arith), at 3 (place + 2 + 1) (omega arith)) (long-back n fits)
+
+-- every section of the form is sound, whatever its boards say
+pub section-back : (front : List ℕ) (n : ℕ) → length front ≡ placeOf n → n ≤ 4096 → {section : List ℕ} → SectionForm n section → sectionThree (front ++ section) n ≡ sound tt
+unfolding sectionThree
+section-back front n e few missing =
+    let whole = length-append front [] in simp (le-ltb (placeOf n) (length (front ++ [])) (omega arith))
+section-back front n e few (counted boards long) =
+    let count = checkpointsOf n in
+    let section = fourBytes count ++ boards in
+    let whole : length (front ++ section) ≡ sectionEnd n = let both = length-append front section in omega arith in
+    simp (
+      lt-ltb (placeOf n) (length (front ++ section)) (omega arith),
+      le-ltb (length (front ++ section)) (placeOf n + 4) (omega arith),
+      number-behind front boards count (omega arith) (placeOf n) e,
+      eq-eqb count count refl,
+      le-ltb (length (front ++ section)) (sectionEnd n) (omega arith),
+      le-ltb (sectionEnd n) (length (front ++ section)) (omega arith),
+    )
+
 module _ (t : Trace) (w : Writable t) where
   -- where section three begins
   pub trace-long : length (traceBytes t) ≡ placeOf (length (t .operations))
@@ -116,25 +144,21 @@ module _ (t : Trace) (w : Writable t) where
       let all = operations-long (t .operations) in
       simp (length-append) (omega arith)
 
-  pub read-back-with : (section : List ℕ) → sectionThree (traceBytes t ++ section) (length (t .operations)) ≡ sound tt
+  read-with : (section : List ℕ) → sectionThree (traceBytes t ++ section) (length (t .operations)) ≡ sound tt
       → readTrace (traceBytes t ++ section) ≡ sound t
   unfolding readTrace traceBytes
-  read-back-with section kept =
+  read-with section kept =
       let head = headBytes (t .divisor) (t .model) (length (t .operations)) in
       let grouped : (head ++ operationsBytes (t .operations)) ++ section ≡ head ++ (operationsBytes (t .operations) ++ section)
       = append-assoc head (operationsBytes (t .operations)) section in
       rw (head-back (t .divisor) (t .model) (length (t .operations)) (operationsBytes (t .operations) ++ section) (w .divisor-above) (w .divisor-fits) (w .not-too-many))
       (rw (operations-back head 0 (t .operations) section refl (w .numbers-fit)) (rw kept refl))
 
-  none-behind : sectionThree (traceBytes t) (length (t .operations)) ≡ sound tt
-  unfolding sectionThree
-  none-behind = let long = trace-long in simp (le-ltb (placeOf (length (t .operations))) (length (traceBytes t)) (omega arith))
+  pub read-back-with : {section : List ℕ} → SectionForm (length (t .operations)) section → readTrace (traceBytes t ++ section) ≡ sound t
+  read-back-with {section} form = read-with section (section-back (traceBytes t) (length (t .operations)) trace-long (w .not-too-many) form)
 
   pub read-back : readTrace (traceBytes t) ≡ sound t
-  read-back =
-      let none : traceBytes t ++ [] ≡ traceBytes t = append-nil (traceBytes t) in
-      subst (λ (bytes : List ℕ). readTrace bytes ≡ sound t) none
-      (read-back-with [] (subst (λ (bytes : List ℕ). sectionThree bytes (length (t .operations)) ≡ sound tt) (sym none) none-behind))
+  read-back = subst (λ (bytes : List ℕ). readTrace bytes ≡ sound t) (append-nil (traceBytes t)) (read-back-with missing)
 
 pub bytes-alike : (t u : Trace) → Writable t → Writable u → traceBytes t ≡ traceBytes u → t ≡ u
 bytes-alike t u v w e = cc (read-back t v, read-back u w)

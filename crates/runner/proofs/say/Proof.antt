@@ -10,7 +10,6 @@ use Rattle.refusal.specs.Reply.{Reply}
 use Rattle.board.specs.Outcome.{Value}
 use Rattle.board.specs.Answer.{replyOf}
 use Rattle.text.specs.Put.{put}
-use Rattle.line.proofs.Back.{line-fits, line-back}
 use Rattle.line.proofs.FirstSix.{first-six}
 use Rattle.runner.specs.Answers.{traceAnswerSize, traceAnswerBytes}
 use Rattle.runner.proofs.Loop.{put-nothing}
@@ -18,16 +17,14 @@ use Rattle.runner.proofs.say.Statement.{statement}
 use Rattle.runner.proofs.say.Tie as tie
 
 -- `t6` is the array of the event bytes
-put-line-requires : tie.Need-put-line-requires
-put-line-requires c κs = line-fits _ _ (c .before .line-of .ensures .0)
-
 returns : tie.Need-returns
 returns c =
-    let line = c .before .before .before .before .line-of in
-    let a = c .before .before .before .before .before .before .before .before .args in
+    let put-it = c .before .before in
+    let line = put-it .put-sentence .ensures in
+    let arm = put-it .before .before in
+    let a = arm .before .before .before .args in
     let same = first-six (a .index) (replyOf (a .answer)) (a .t6) (a .left .0) in
-    let said = c .before .before .put-line .ensures ∙ ap (λ (text : List ℕ). put text (now (a .out)) (a .place)) (line-back _ _ (line .ensures .0) ∙ same) in
-    rw (c .before .before .before .before .before .enum-told .given .1) record { told = said; short = rw⁻¹ same (line .ensures .1) }
+    rw (arm .enum-told .given .1) record { told = line .told ∙ ap (λ (text : List ℕ). put text (now (a .out)) (a .place)) same; short = rw⁻¹ same (line .short) }
 
 answer-length : (reply : Reply Value) (events : List ℕ) (left : ℕ) → length (traceAnswerBytes reply events left) ≤ traceAnswerSize
 unfolding traceAnswerBytes
@@ -51,8 +48,7 @@ say-spec =
     tie.close
     (tie.spec
     (λ c. search needs) (λ c. search needs) (λ c. search needs) (λ c. search needs) (λ c. search needs) (λ c. search needs)
-    (λ c. search needs) (λ c κs. search needs) put-line-requires
-    (λ c. search needs) (λ c κs. search needs) (λ c. search needs) (λ c κs. search needs) (λ c. search needs)
-    (λ c. search needs) returns
+    (λ c. search needs) (λ c κs. search needs) (λ c. search needs) (λ c κs. search needs) (λ c. search needs) (λ c κs. search needs)
+    (λ c. search needs) (λ c. search needs) returns
     (λ c. search needs) returns-2
     returns-3)

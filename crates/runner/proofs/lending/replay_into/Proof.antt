@@ -4,12 +4,11 @@ use native.Mathlib.Omega.{arith}
 use denote.Ref.{now}
 use borrow.Author.Needs.{needs}
 use Rattle.line.specs.Lines.{faultLine}
-use Rattle.line.proofs.Back.{line-fits}
 use Rattle.text.proofs.Puts.{wrote}
 use Rattle.trace.specs.Answer.{faultOf, headJudged}
 use Rattle.trace.proofs.Sound.{judged-sound, judged-refused}
 use Rattle.runner.specs.Printed.{printed}
-use Rattle.runner.proofs.Whole.{line-put, prints}
+use Rattle.runner.proofs.Whole.{prints}
 use Rattle.runner.proofs.Lent.{room-refused, room-sound, too-short, written}
 use Rattle.runner.proofs.lending.replay_into.Statement.{statement}
 use Rattle.runner.proofs.lending.replay_into.Tie as tie
@@ -21,9 +20,6 @@ returns c =
     let a = judged .before .before .before .args in
     let is = judged-refused (now (a .trace)) (faultOf (told .judged .given .0 .0)) (sym (judged .judge .ensures) ∙ ap headJudged (told .judged .given .1)) in
     too-short (now (a .trace)) (now (a .out)) _ (room-refused (now (a .trace)) _ is) (c .if1 .taken)
-
-put-line-requires : tie.Need-put-line-requires
-put-line-requires c κs = line-fits _ _ (c .before .line-of .ensures .0)
 
 returns-2 : tie.Need-returns-2
 returns-2 c =
@@ -43,16 +39,16 @@ replay-sound-requires c κs =
 returns-3 : tie.Need-returns-3
 unfolding printed
 returns-3 c =
-    let line = c .before .before .before .before in
-    let room = line .before .if1 .left in
-    let told = line .before .before .before in
+    let put = c .before .before in
+    let test = put .before .before in
+    let told = test .before .before in
     let judged = told .before .before in
     let a = judged .before .before .before .args in
     let fault = faultOf (told .judged .given .0 .0) in
     let is = judged-refused (now (a .trace)) fault (sym (judged .judge .ensures) ∙ ap headJudged (told .judged .given .1)) in
-    let text = faultLine fault in
-    let all = prints (wrote text (now (a .out)) 0 _ _ (line-put _ text _ _ _ _ (line .line-of .ensures .0) (c .before .before .put-line .ensures))) (omega (arith, line .line-of .ensures .1, room)) in
-    written (now (a .trace)) (now (a .out)) _ (room-refused (now (a .trace)) _ is) _ _ room (rw is all)
+    let line = put .put-sentence .ensures in
+    let all = prints (wrote (faultLine fault) (now (a .out)) 0 _ _ (line .told)) (omega (arith, line .short, test .if1 .left)) in
+    written (now (a .trace)) (now (a .out)) _ (room-refused (now (a .trace)) _ is) _ _ (test .if1 .left) (rw is all)
 
 returns-4 : tie.Need-returns-4
 unfolding printed
@@ -70,8 +66,7 @@ replay-into-spec =
     tie.close
     (tie.spec
     (λ c κs. search needs) (λ c. search needs) returns
-    (λ c κs. search needs) put-line-requires
-    (λ c. search needs) (λ c. search needs) (λ c. search needs) (λ c. search needs) returns-2
+    (λ c κs. search needs) (λ c. search needs) (λ c. search needs) (λ c. search needs) (λ c. search needs) returns-2
     replay-sound-requires
     (λ c. search needs) returns-3
     (λ c. search needs) returns-4)
