@@ -1,13 +1,13 @@
-// The limits of a trace's form: each refusal number of a trace at its first and at its last possible place, the order of the tests, and the values that are
-// just sound. What is printed under a name is the replay of that trace; of the one with 4,096 operations only the end. Then every prefix of the trace on
-// standard input, which is case R.
+// The limits of the form of a trace's head and operations: each refusal number at its first and at its last possible place, the order of the tests, and the
+// values that are just sound. What is printed under a name is the replay of that trace; of the one with 4,096 operations only the end. Then every prefix of the
+// trace on standard input, which is case R. Of section three only its first byte is tried: the rest is in checkpoint_limits.
 mod prefixes;
 
 use libc::STDIN_FILENO;
 use libc::STDOUT_FILENO;
 
-// The longest trace. The arrays have room for one byte more.
-const LONGEST: usize = trace::LONGEST_TRACE;
+// Where 4,096 operations end. The arrays have room for one byte more.
+const LONGEST: usize = trace::OPERATIONS_END;
 
 // The room that a replay is lent: no replay prints more.
 pub(crate) const TEXT: usize = runner::TEXT_ROOM;
@@ -274,7 +274,7 @@ fn last_places() {
     last(b"last target 1", 6, 1, 0, LONGEST);
     last(b"last number 2", 3, 0, 2, LONGEST);
     last(b"last byte missing", 2, 0x40, 0, LONGEST - 1);
-    last(b"a byte too many", 2, 0x40, 0, LONGEST + 1);
+    last(b"last operation, a byte more", 2, 0x40, 0, LONGEST + 1);
 }
 
 fn main() {
