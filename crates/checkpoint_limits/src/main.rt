@@ -1,0 +1,30 @@
+// Checkpoints at their limits, for every reader of a trace: the plain replay, the full check, the replay from a checkpoint and the one that marks. The trace on
+// standard input is `marked` of traces/: 600 operations and two checkpoints. Longer and shorter ones are made of its operations.
+mod changed;
+mod form;
+mod lines;
+mod making;
+mod older;
+mod prefixes;
+mod readers;
+mod rooms;
+mod sizes;
+mod wrong;
+
+use libc::STDIN_FILENO;
+
+fn show_all(marked: &[u8]) {
+    prefixes::show_all(marked);
+    changed::show_all(marked);
+    sizes::show_all(marked);
+    form::show_all(marked);
+    wrong::show_all(marked);
+    older::show_all(marked);
+    rooms::show_all(marked);
+}
+
+fn main() {
+    let mut input = io::buffer();
+    let length = io::read_full(STDIN_FILENO, &mut input);
+    show_all(&input[..length]);
+}
