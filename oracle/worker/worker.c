@@ -18,9 +18,13 @@ uint32_t pit_board_operation(uint8_t *board, size_t board_len, uint8_t *events, 
                              size_t place, uint8_t code, uint16_t target, uint32_t number);
 uint32_t pit_replay(const uint8_t *trace, size_t trace_len, uint8_t *out, size_t out_len, uint8_t *answer, size_t answer_len);
 uint32_t pit_answers(const uint8_t *trace, size_t trace_len, uint8_t *out, size_t out_len, uint8_t *answer, size_t answer_len);
+uint32_t pit_replay_from(const uint8_t *trace, size_t trace_len, uint8_t *out, size_t out_len, uint8_t *answer, size_t answer_len,
+                         uint32_t checkpoint);
+uint32_t pit_check(const uint8_t *trace, size_t trace_len, uint8_t *out, size_t out_len, uint8_t *answer, size_t answer_len);
+uint32_t pit_mark(const uint8_t *trace, size_t trace_len, uint8_t *out, size_t out_len, uint8_t *answer, size_t answer_len);
 
 /* The functions by the first byte of a frame, and the places in each kind of frame. */
-enum { FRESH, OPERATION, BOARD_NEW, BOARD_OPERATION, REPLAY, ANSWERS };
+enum { FRESH, OPERATION, BOARD_NEW, BOARD_OPERATION, REPLAY, ANSWERS, REPLAY_FROM, CHECK, MARK };
 enum { CHANNEL_FRAME = 80, RECORD = 8, ANSWER = 56 };
 enum { BOARD_FRAME = 240, BOARD = 24, EVENTS = 144, BOARD_ANSWER = 208 };
 enum { TRACE_HEAD = 32, PAST_OUT = 16, TRACE_ANSWER_ROOM = 32 };
@@ -46,6 +50,19 @@ void *memset(void *to, int byte, size_t n)
     for (size_t i = 0; i < n; i++)
         ((uint8_t *)to)[i] = (uint8_t)byte;
     return to;
+}
+
+int memcmp(const void *one, const void *other, size_t n)
+{
+    for (size_t i = 0; i < n; i++)
+        if (((const uint8_t *)one)[i] != ((const uint8_t *)other)[i])
+            return ((const uint8_t *)one)[i] - ((const uint8_t *)other)[i];
+    return 0;
+}
+
+int bcmp(const void *one, const void *other, size_t n)
+{
+    return memcmp(one, other, n);
 }
 
 static long call(long number, long a, long b, long c)
@@ -110,10 +127,22 @@ static void serve_trace(uint8_t *frame)
     size_t trace_len = number_at(frame + 4), out_len = number_at(frame + 8), answer_len = number_at(frame + 12);
     uint8_t *trace = frame + TRACE_HEAD, *out = trace + trace_len, *answer = out + out_len + PAST_OUT;
     uint32_t status;
-    if (frame[0] == REPLAY)
+    switch (frame[0]) {
+    case REPLAY:
         status = pit_replay(trace, trace_len, out, out_len, answer, answer_len);
-    else
+        break;
+    case ANSWERS:
         status = pit_answers(trace, trace_len, out, out_len, answer, answer_len);
+        break;
+    case REPLAY_FROM:
+        status = pit_replay_from(trace, trace_len, out, out_len, answer, answer_len, number_at(frame + 20));
+        break;
+    case CHECK:
+        status = pit_check(trace, trace_len, out, out_len, answer, answer_len);
+        break;
+    default:
+        status = pit_mark(trace, trace_len, out, out_len, answer, answer_len);
+    }
     put_number(frame + 16, status);
 }
 
@@ -152,7 +181,7 @@ static void write_all(const uint8_t *bytes, size_t n)
     }
 }
 
-/* More than the longest frame: a trace of 4,097 operations, with room for its lines. */
+/* More than the longest frame: a trace of 4,097 operations or one of 4,096 with its checkpoints, with room for its lines. */
 static uint8_t frames[1 << 19];
 
 /* Serves the whole frames at the front and hands back how many bytes they have. */

@@ -8,13 +8,13 @@ use crate::trace_exhaustive::{program, ticking_program};
 use crate::trace_frame::TraceFrame;
 use crate::trace_judge::{case_r, LINE_ROOM};
 use crate::trace_random::{as_it_is, trace_of};
-use crate::trace_reader::{Operation, MOST_OPERATIONS};
+use crate::trace_reader::{read_as_before, Operation, MOST_OPERATIONS};
 use crate::trace_replay::replay as replay_on_the_original;
 
 const SEED: u64 = 8256;
 const SOUND: usize = 44;
 const TICKING: u32 = 18;
-/// Of each refusal of a trace.
+/// Of each refusal of a trace, as they were before request L7: the sample has the traces that it had, and those with bytes behind the last operation print what they print now.
 const REFUSED: usize = 7;
 const REFUSALS: [u32; 7] = [3, 9, 10, 11, 12, 13, 14];
 /// No trace is longer but the last, which has as many operations as there may be.
@@ -64,7 +64,7 @@ fn traces() -> Vec<Vec<u8>> {
         let number = random.below(12);
         let mut trace = random.sound_trace(&mut reference, number, as_it_is);
         random.damage(&mut trace);
-        let Err((number, _)) = replay_on_the_original(&mut reference, &trace).answers else { continue };
+        let Err((number, _)) = read_as_before(&trace) else { continue };
         let place = REFUSALS.iter().position(|known| *known == number).expect("a refusal of a trace");
         if left[place] > 0 {
             left[place] -= 1;

@@ -35,6 +35,17 @@ mod calls {
             pub fn pit_replay(trace: *const u8, trace_len: usize, out: *mut u8, out_len: usize, answer: *mut u8, answer_len: usize) -> u32;
             pub fn pit_answers(trace: *const u8, trace_len: usize, out: *mut u8, out_len: usize, answer: *mut u8, answer_len: usize)
                 -> u32;
+            pub fn pit_replay_from(
+                trace: *const u8,
+                trace_len: usize,
+                out: *mut u8,
+                out_len: usize,
+                answer: *mut u8,
+                answer_len: usize,
+                checkpoint: u32,
+            ) -> u32;
+            pub fn pit_check(trace: *const u8, trace_len: usize, out: *mut u8, out_len: usize, answer: *mut u8, answer_len: usize) -> u32;
+            pub fn pit_mark(trace: *const u8, trace_len: usize, out: *mut u8, out_len: usize, answer: *mut u8, answer_len: usize) -> u32;
         }
     }
 
@@ -68,6 +79,21 @@ mod calls {
         let (t, o, a) = (trace.as_ptr(), out.as_mut_ptr(), answer.as_mut_ptr());
         unsafe { c::pit_answers(t, trace.len(), o, out.len(), a, answer.len()) }
     }
+
+    pub fn replay_from(trace: &[u8], out: &mut [u8], answer: &mut [u8], checkpoint: u32) -> u32 {
+        let (t, o, a) = (trace.as_ptr(), out.as_mut_ptr(), answer.as_mut_ptr());
+        unsafe { c::pit_replay_from(t, trace.len(), o, out.len(), a, answer.len(), checkpoint) }
+    }
+
+    pub fn check(trace: &[u8], out: &mut [u8], answer: &mut [u8]) -> u32 {
+        let (t, o, a) = (trace.as_ptr(), out.as_mut_ptr(), answer.as_mut_ptr());
+        unsafe { c::pit_check(t, trace.len(), o, out.len(), a, answer.len()) }
+    }
+
+    pub fn mark(trace: &[u8], out: &mut [u8], answer: &mut [u8]) -> u32 {
+        let (t, o, a) = (trace.as_ptr(), out.as_mut_ptr(), answer.as_mut_ptr());
+        unsafe { c::pit_mark(t, trace.len(), o, out.len(), a, answer.len()) }
+    }
 }
 
 /// A program without the archive has a worker, and comes to none of these.
@@ -98,6 +124,18 @@ mod calls {
     }
 
     pub fn answers(_: &[u8], _: &mut [u8], _: &mut [u8]) -> u32 {
+        unreachable!("{NONE}")
+    }
+
+    pub fn replay_from(_: &[u8], _: &mut [u8], _: &mut [u8], _: u32) -> u32 {
+        unreachable!("{NONE}")
+    }
+
+    pub fn check(_: &[u8], _: &mut [u8], _: &mut [u8]) -> u32 {
+        unreachable!("{NONE}")
+    }
+
+    pub fn mark(_: &[u8], _: &mut [u8], _: &mut [u8]) -> u32 {
         unreachable!("{NONE}")
     }
 }

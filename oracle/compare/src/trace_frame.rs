@@ -1,8 +1,8 @@
-//! A call of one of the two functions of a trace, which becomes the reply. It is as long as its lengths say.
+//! A call of one of the five functions of a trace, which becomes the reply. It is as long as its lengths say.
 //!
-//! The head has 32 bytes: the function (4 replay, 5 answers), the filler, two bytes unused, the lengths of the trace, of what is lent for `out` and of what
-//! is lent for the answer (4 each), the status of the reply (4), twelve bytes unused. Then come the trace, the bytes lent for `out` and 16 more, and 32
-//! bytes of which the answer is the first. All other bytes hold the filler.
+//! The head has 32 bytes: the function (4 replay, 5 answers, 6 replay from a checkpoint, 7 check, 8 mark), the filler, two bytes unused, the lengths of the trace, of what is
+//! lent for `out` and of what is lent for the answer (4 each), the status of the reply (4), the checkpoint's number (4), eight bytes unused. Then come the trace, the bytes
+//! lent for `out` and 16 more, and 32 bytes of which the answer is the first. All other bytes hold the filler.
 
 use crate::linked;
 use crate::ours::Call;
@@ -23,13 +23,17 @@ impl Call for TraceFrame {
 
     fn serve_linked(&mut self) {
         let (trace_len, out_len, answer_len) = (self.number(4), self.number(8), self.number(12));
+        let checkpoint = self.number(20) as u32;
         let (head, rest) = self.0.split_at_mut(HEAD);
         let (trace, rest) = rest.split_at_mut(trace_len);
         let (out, answer) = rest.split_at_mut(out_len + PAST_OUT);
         let (out, answer) = (&mut out[..out_len], &mut answer[..answer_len]);
         let status = match head[0] {
             4 => linked::replay(trace, out, answer),
-            _ => linked::answers(trace, out, answer),
+            5 => linked::answers(trace, out, answer),
+            6 => linked::replay_from(trace, out, answer, checkpoint),
+            7 => linked::check(trace, out, answer),
+            _ => linked::mark(trace, out, answer),
         };
         head[16..20].copy_from_slice(&status.to_le_bytes());
     }
@@ -42,6 +46,20 @@ impl TraceFrame {
 
     pub fn answers(trace: &[u8], out_len: usize, answer_len: usize, filler: u8) -> Self {
         Self::of(5, trace, out_len, answer_len, filler)
+    }
+
+    pub fn replay_from(checkpoint: u32, trace: &[u8], out_len: usize, answer_len: usize, filler: u8) -> Self {
+        let mut frame = Self::of(6, trace, out_len, answer_len, filler);
+        frame.0[20..24].copy_from_slice(&checkpoint.to_le_bytes());
+        frame
+    }
+
+    pub fn check(trace: &[u8], out_len: usize, answer_len: usize, filler: u8) -> Self {
+        Self::of(7, trace, out_len, answer_len, filler)
+    }
+
+    pub fn mark(trace: &[u8], out_len: usize, answer_len: usize, filler: u8) -> Self {
+        Self::of(8, trace, out_len, answer_len, filler)
     }
 
     fn of(function: u8, trace: &[u8], out_len: usize, answer_len: usize, filler: u8) -> Self {

@@ -9,21 +9,21 @@ use crate::trace_reader::{Operation, MOST_OPERATIONS};
 use crate::trace_replay::{replay, Replayed};
 use crate::words_off::{self, is_bare_read, Pairs, HALF, HELD};
 
-const SHORT_ANSWER: u32 = 104;
-const SHORT_OUT: u32 = 105;
+pub const SHORT_ANSWER: u32 = 104;
+pub const SHORT_OUT: u32 = 105;
 
 /// Room for a line: the head, each operation, the end.
 pub const LINE_ROOM: usize = 64;
 const ANSWER_BYTES: usize = 16;
-const NUMBERS: usize = 16;
+pub const NUMBERS: usize = 16;
 
 pub struct TraceJudge<'a> {
     pub reference: Reference,
-    ours: &'a mut Ours,
+    pub ours: &'a mut Ours,
     /// Sound traces and their operations; and damaged ones by the number of their refusal.
     pub sound: u64,
     pub operations: u64,
-    pub damaged: [u64; 15],
+    pub damaged: [u64; 18],
     /// Calls refused with 104 or 105.
     pub refused: u64,
     /// How often the reads said which words.
@@ -38,13 +38,13 @@ pub struct TraceJudge<'a> {
 
 impl<'a> TraceJudge<'a> {
     pub fn new(ours: &'a mut Ours) -> Self {
-        let (reference, damaged, pairs) = (Reference::default(), [0; 15], Pairs::default());
+        let (reference, damaged, pairs) = (Reference::default(), [0; 18], Pairs::default());
         let (sound, operations, refused, differ) = (0, 0, 0, 0);
         let (lines, read_lines, answers, read_answers) = (0, 0, 0, 0);
         Self { reference, ours, sound, operations, damaged, refused, pairs, lines, read_lines, answers, read_answers, differ }
     }
 
-    fn wrong(&mut self, trace: &[u8], what: &str) {
+    pub fn wrong(&mut self, trace: &[u8], what: &str) {
         self.differ += 1;
         if self.differ <= 10 {
             let shown = &trace[..trace.len().min(120)];
@@ -55,6 +55,11 @@ impl<'a> TraceJudge<'a> {
     /// Both functions with as many bytes as they ask for or some more, and then with fewer.
     pub fn ask(&mut self, trace: &[u8], random: &mut Random) {
         let replayed = replay(&mut self.reference, trace);
+        self.ask_replayed(trace, &replayed, random);
+    }
+
+    /// The same where it is known what is due.
+    pub fn ask_replayed(&mut self, trace: &[u8], replayed: &Replayed, random: &mut Random) {
         if let Some(fault) = replayed.fault {
             self.wrong(trace, fault);
         }
@@ -67,8 +72,8 @@ impl<'a> TraceJudge<'a> {
             Err((number, _)) => self.damaged[*number as usize] += 1,
         }
         let more = if random.one_in(2) { 0 } else { random.below(60) as usize };
-        self.ask_replay(trace, &replayed, more, random);
-        self.ask_answers(trace, &replayed, more, random);
+        self.ask_replay(trace, replayed, more, random);
+        self.ask_answers(trace, replayed, more, random);
     }
 
     fn ask_replay(&mut self, trace: &[u8], replayed: &Replayed, more: usize, random: &mut Random) {
@@ -147,7 +152,7 @@ impl<'a> TraceJudge<'a> {
         }
     }
 
-    fn refuses(&mut self, trace: &[u8], frame: TraceFrame, status: u32) {
+    pub fn refuses(&mut self, trace: &[u8], frame: TraceFrame, status: u32) {
         let lent = frame.lent().to_vec();
         let reply = self.ours.call(frame);
         self.refused += 1;
@@ -244,6 +249,10 @@ pub fn run(judge: &mut TraceJudge, traces: u64, seed: u64) {
         let mut trace = random.sound_trace(&mut making, length, changed);
         for _ in 0..turn % 3 {
             random.damage(&mut trace);
+        }
+        // Behind some the count of a section without checkpoints, and behind some of these bytes too many.
+        if random.one_in(8) {
+            trace.extend(vec![0; 4 + random.below(3) as usize]);
         }
         judge.ask(&trace, &mut random);
     }

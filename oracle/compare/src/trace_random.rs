@@ -31,12 +31,12 @@ pub fn trace_of(model: u32, divisor: u32, operations: &[Operation]) -> Vec<u8> {
     head.iter().flat_map(|number| number.to_le_bytes()).chain(operations.iter().flat_map(|operation| bytes_of(*operation))).collect()
 }
 
-fn put(trace: &mut [u8], place: usize, number: u32) {
+pub fn put(trace: &mut [u8], place: usize, number: u32) {
     trace[place..place + 4].copy_from_slice(&number.to_le_bytes());
 }
 
 /// The same operation on one channel, so that what a trace does meets; 3 leaves it, and so do bad ports and channels.
-fn focused(operation: Operation, channel: u8) -> Operation {
+pub fn focused(operation: Operation, channel: u8) -> Operation {
     match (operation.code, operation.target) {
         _ if channel == 3 => operation,
         (1, 0x43) => Operation { number: operation.number & 0x3F | u32::from(channel) << 6, ..operation },
@@ -65,7 +65,7 @@ pub fn changed(random: &mut Random, operation: Operation, channel: u8) -> Operat
 
 impl Random {
     /// An operation for a trace that stands at this board.
-    fn trace_operation(&mut self, board: &Board) -> Operation {
+    pub fn trace_operation(&mut self, board: &Board) -> Operation {
         loop {
             let op = self.board_operation(board, &lent(0));
             let many = matches!(op.code, 6 | 7) && quotient(board, op.number).is_some_and(|ticks| ticks > MANY_TICKS);
@@ -101,7 +101,7 @@ impl Random {
     }
 
     /// A number that is none of the small ones, or that differs from a small one in its upper bytes alone.
-    fn bad_number(&mut self, least: u32) -> u32 {
+    pub fn bad_number(&mut self, least: u32) -> u32 {
         match self.below(3) {
             0 => least,
             1 => (1 + self.below(255) as u32) << (8 + 8 * self.below(3)),

@@ -1,4 +1,6 @@
-//! Reads a recorded trace. Written from document 01, "Recorded traces", and request L1 of document 02, each rule under its sentence, without a look at our own reader.
+//! Reads a recorded trace. Written from document 01, "Recorded traces", and requests L1 and L7 of document 02, each rule under its sentence, without a look at our own reader.
+
+use original::pit::board::{Board, LENGTH};
 
 /// "operations of six bytes: code, target, number"
 #[derive(Clone, Copy, Debug, PartialEq)]
@@ -12,12 +14,25 @@ pub struct Trace {
     pub divisor: u32,
     pub model: u8,
     pub operations: Vec<Operation>,
+    /// Where the last operation ends.
+    pub end: usize,
+    /// L7: "The section may be missing."
+    pub checkpoints: Option<Vec<Checkpoint>>,
+}
+
+/// L7: "the whole board as it stands after each 256 operations, in an encoding set down in docs/". Its bytes may be those of no board.
+pub struct Checkpoint {
+    pub place: usize,
+    pub bytes: Board,
 }
 
 /// A refusal's number, and the place that is printed with it.
 pub type Fault = (u32, usize);
 
 pub const MOST_OPERATIONS: u32 = 4_096;
+
+/// L7: "after each 256 operations"
+pub const BETWEEN: usize = 256;
 
 struct Reader<'a> {
     bytes: &'a [u8],
@@ -60,34 +75,77 @@ impl Reader<'_> {
         }
         Ok(operation)
     }
+
+    /// L7: "9 covers an unfinished section"; its place is the total length, as of every 9. What a checkpoint's bytes are is no matter of form.
+    fn checkpoint(&mut self) -> Result<Checkpoint, Fault> {
+        let Some(field) = self.bytes.get(self.at..self.at + LENGTH) else { return Err((9, self.bytes.len())) };
+        let place = self.at;
+        self.at += LENGTH;
+        Ok(Checkpoint { place, bytes: field.try_into().expect("a board's bytes") })
+    }
+
+    /// Sections one and two.
+    fn settings_and_operations(&mut self) -> Result<Trace, Fault> {
+        // "Section one: count 2, then divisor and model (0 8253, 1 8254)."
+        let (count, at) = self.number()?;
+        if count != 2 {
+            return Err((10, at));
+        }
+        let (divisor, at) = self.number()?;
+        // "A zero divisor is 3."
+        if divisor == 0 {
+            return Err((3, at));
+        }
+        let (model, at) = self.number()?;
+        if model > 1 {
+            return Err((14, at));
+        }
+        // "Section two: operation count, then operations"
+        let (count, at) = self.number()?;
+        if count > MOST_OPERATIONS {
+            return Err((11, at));
+        }
+        let operations = (0..count).map(|_| self.operation()).collect::<Result<Vec<_>, Fault>>()?;
+        Ok(Trace { divisor, model: model as u8, operations, end: self.at, checkpoints: None })
+    }
+
+    /// L7: "Add a third section to the trace: a count, then the whole board as it stands after each 256 operations".
+    fn checkpoints(&mut self, operations: usize) -> Result<Option<Vec<Checkpoint>>, Fault> {
+        // "The section may be missing." A byte more begins it.
+        if self.at == self.bytes.len() {
+            return Ok(None);
+        }
+        let (count, at) = self.number()?;
+        // "17 for a checkpoint count other than the operations divided by 256, rounded down"
+        if count as usize != operations / BETWEEN {
+            return Err((17, at));
+        }
+        (0..count).map(|_| self.checkpoint()).collect::<Result<Vec<_>, Fault>>().map(Some)
+    }
+
+    /// "first extra byte for 13"
+    fn at_the_end(&self) -> Result<(), Fault> {
+        if self.at < self.bytes.len() {
+            return Err((13, self.at));
+        }
+        Ok(())
+    }
 }
 
 /// "Fields are checked from the front".
 pub fn read(bytes: &[u8]) -> Result<Trace, Fault> {
     let mut reader = Reader { bytes, at: 0 };
-    // "Section one: count 2, then divisor and model (0 8253, 1 8254)."
-    let (count, at) = reader.number()?;
-    if count != 2 {
-        return Err((10, at));
-    }
-    let (divisor, at) = reader.number()?;
-    // "A zero divisor is 3."
-    if divisor == 0 {
-        return Err((3, at));
-    }
-    let (model, at) = reader.number()?;
-    if model > 1 {
-        return Err((14, at));
-    }
-    // "Section two: operation count, then operations"
-    let (count, at) = reader.number()?;
-    if count > MOST_OPERATIONS {
-        return Err((11, at));
-    }
-    let operations = (0..count).map(|_| reader.operation()).collect::<Result<Vec<_>, Fault>>()?;
-    // "bytes after the last operation": "first extra byte for 13"
-    if reader.at < bytes.len() {
-        return Err((13, reader.at));
-    }
-    Ok(Trace { divisor, model: model as u8, operations })
+    let mut trace = reader.settings_and_operations()?;
+    trace.checkpoints = reader.checkpoints(trace.operations.len())?;
+    // L7: "13 means bytes after the last section present"
+    reader.at_the_end()?;
+    Ok(trace)
+}
+
+/// The same as it was until request L7, 13 for "bytes after the last operation". L7: "An older program refuses the new form with 13."
+pub fn read_as_before(bytes: &[u8]) -> Result<Trace, Fault> {
+    let mut reader = Reader { bytes, at: 0 };
+    let trace = reader.settings_and_operations()?;
+    reader.at_the_end()?;
+    Ok(trace)
 }

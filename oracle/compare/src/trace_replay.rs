@@ -1,9 +1,9 @@
 //! Replays a trace on the original, with ticks worked off by docs/TICK.md, and says what it does: in the lines of documents 01 and 02, and in the bytes of docs/ENCODING.md.
 
 use crate::reference::{Reference, WORK_OFF};
-use crate::trace_reader::{read, Fault, Operation, Trace};
+use crate::trace_reader::{read, Fault, Operation, Trace, BETWEEN};
 use crate::words_off::{HALF, HELD};
-use original::pit::board::{fresh, number_at, REMAINDER};
+use original::pit::board::{fresh, number_at, Board, REMAINDER};
 use original::pit::board_operation::{BoardOperation, BoardOutcome, Events};
 use original::pit::words::Words;
 
@@ -19,27 +19,42 @@ pub struct Replayed {
     /// The same by the rules as they were before request L3, which know no words.
     pub text_before: String,
     pub answers_before: Vec<u8>,
+    /// L7: "the whole board as it stands after each 256 operations".
+    pub boards: Vec<Board>,
     pub fault: Option<&'static str>,
+}
+
+impl Replayed {
+    /// "a fault prints only `trace refused N at P`"
+    pub fn refused((number, place): Fault) -> Self {
+        let text = refusal_line((number, place));
+        let (answers_before, boards) = (Vec::new(), Vec::new());
+        Replayed { text_before: text.clone(), text, answers: Err((number, place)), answers_before, boards, fault: None }
+    }
+}
+
+pub fn refusal_line((number, place): Fault) -> String {
+    format!("trace refused {number} at {place}\n")
 }
 
 pub fn replay(reference: &mut Reference, bytes: &[u8]) -> Replayed {
     match read(bytes) {
-        // "a fault prints only `trace refused N at P`"
-        Err((number, place)) => {
-            let text = format!("trace refused {number} at {place}\n");
-            Replayed { text_before: text.clone(), text, answers: Err((number, place)), answers_before: Vec::new(), fault: None }
-        }
+        Err(fault) => Replayed::refused(fault),
         Ok(trace) => run(reference, &trace),
     }
 }
 
 fn run(reference: &mut Reference, trace: &Trace) -> Replayed {
-    let mut board = fresh(trace.model, trace.divisor);
-    let (mut answers, mut answers_before, mut fault) = (Vec::new(), Vec::new(), None);
     let name = if trace.model == 0 { "8253" } else { "8254" };
-    let mut text = format!("pit {name} divisor {}\n", trace.divisor);
-    let mut text_before = text.clone();
-    for (index, operation) in trace.operations.iter().enumerate() {
+    let head = format!("pit {name} divisor {}\n", trace.divisor);
+    run_from(reference, fresh(trace.model, trace.divisor), trace, 0, &head)
+}
+
+/// The operations from one on, made on a board, each line with its own index; behind a head, and with the end that has the count of all.
+pub fn run_from(reference: &mut Reference, mut board: Board, trace: &Trace, first: usize, head: &str) -> Replayed {
+    let (mut text, mut text_before) = (head.to_string(), head.to_string());
+    let (mut answers, mut answers_before, mut boards, mut fault) = (Vec::new(), Vec::new(), Vec::new(), None);
+    for (index, operation) in trace.operations.iter().enumerate().skip(first) {
         let outcome = reference.operation(&board, &lent(operation.code), on_a_board(*operation));
         text += &format!("{index} {}\n", said(*operation, &outcome));
         text_before += &format!("{index} {}\n", said_before(*operation, &outcome));
@@ -48,9 +63,12 @@ fn run(reference: &mut Reference, trace: &Trace) -> Replayed {
         fault = fault.or(outcome.fault);
         // "A refused operation does not stop the rest."
         board = outcome.board;
+        if (index + 1) % BETWEEN == 0 {
+            boards.push(board);
+        }
     }
     let end = format!("end {}\n", trace.operations.len());
-    Replayed { text: text + &end, answers: Ok(answers), text_before: text_before + &end, answers_before, fault }
+    Replayed { text: text + &end, answers: Ok(answers), text_before: text_before + &end, answers_before, boards, fault }
 }
 
 pub fn on_a_board(operation: Operation) -> BoardOperation {

@@ -1,16 +1,19 @@
-//! The whole comparison: channels, ticks, boards, traces, the differences and the samples; and what it counts.
+//! The whole comparison: channels, ticks, boards, traces, checkpoints, the differences and the samples; and what it counts.
 
 use crate::board_judge::BoardJudge;
+use crate::checkpoint_judge::CheckpointJudge;
 use crate::judge::Judge;
 use crate::ours::Ours;
 use crate::tick_original::TickJudge;
 use crate::trace_judge::TraceJudge;
 use crate::{board_counts, board_exhaustive, board_operations, board_owed, board_random, board_refusals};
+use crate::{checkpoint_exhaustive, checkpoint_random};
 use crate::{differences, exhaustive, operations, random, refusals, samples, tick_ours, tick_waves, trace_exhaustive, trace_judge, turns};
 use std::time::Instant;
 
-/// A trace, and a tick of a record, for so many random operations.
+/// A trace, one with checkpoints, and a tick of a record, for so many random operations.
 const OPERATIONS_A_TRACE: u64 = 500;
+const OPERATIONS_A_MARKED_TRACE: u64 = 25_000;
 const OPERATIONS_A_TICK: u64 = 10;
 
 /// Operations compared, and how many of them differ.
@@ -30,6 +33,7 @@ pub fn run(operations: u64, seed: u64) -> Result<bool, String> {
         turns_of_the_original(),
         boards(&mut ours, operations, seed),
         traces(&mut ours, operations, seed),
+        checkpoints(&mut ours, operations, seed),
     ];
     let unlike = differences::run(&mut ours)? + samples::stand()?;
     let compared: u64 = parts.iter().map(|part| part.operations).sum();
@@ -125,7 +129,7 @@ fn traces(ours: &mut Ours, operations: u64, seed: u64) -> Compared {
     let mut judge = TraceJudge::new(ours);
     trace_exhaustive::run(&mut judge);
     trace_judge::run(&mut judge, operations / OPERATIONS_A_TRACE, seed);
-    let damaged: Vec<String> = [3, 9, 10, 11, 12, 13, 14].map(|number| format!("{number}: {}", judge.damaged[number])).to_vec();
+    let damaged: Vec<String> = [3, 9, 10, 11, 12, 13, 14, 17].map(|number| format!("{number}: {}", judge.damaged[number])).to_vec();
     println!("sound traces: {} with {} operations", judge.sound, judge.operations);
     println!("damaged traces: {} ({})", judge.damaged.iter().sum::<u64>(), damaged.join(", "));
     println!(
@@ -141,4 +145,28 @@ fn traces(ours: &mut Ours, operations: u64, seed: u64) -> Compared {
     println!("refused by ours with 104 or 105, or with a damaged trace's number: {}", judge.refused);
     println!("traces: {} operations, {} differ ({:.1} s)", judge.operations, judge.differ, started.elapsed().as_secs_f64());
     Compared { operations: judge.operations, differ: judge.differ }
+}
+
+/// Checkpoints beside a trace: checked, made, and replayed from.
+fn checkpoints(ours: &mut Ours, operations: u64, seed: u64) -> Compared {
+    let started = Instant::now();
+    let mut judge = CheckpointJudge::new(ours);
+    checkpoint_exhaustive::run(&mut judge);
+    checkpoint_random::run(&mut judge, operations / OPERATIONS_A_MARKED_TRACE, seed);
+    let (checks, marks, replays, plain) = (&judge.checks, &judge.marks, &judge.replays, &judge.plain);
+    println!(
+        "full checks: {}, {} of them pass with {} checkpoints; refused with {}",
+        checks.all(),
+        checks.done,
+        judge.compared,
+        checks.show()
+    );
+    println!("traces marked: {}, refused with {}", marks.done, marks.show());
+    println!("replays from a checkpoint: {}, {} of them from another board; refused with {}", replays.done, judge.others, replays.show());
+    println!("checkpoints at which the original stands that is not stopped on its way: {}", judge.stood);
+    println!("plain replays of these traces: {} with {} operations", plain.sound, plain.operations);
+    println!("refused by ours with 104 or 105, or with a damaged trace's number: {}", plain.refused);
+    let compared = plain.operations + judge.operations;
+    println!("checkpoints: {compared} operations, {} differ ({:.1} s)", plain.differ, started.elapsed().as_secs_f64());
+    Compared { operations: compared, differ: plain.differ }
 }

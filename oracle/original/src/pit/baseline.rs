@@ -3,6 +3,7 @@
 //! It stands in the original's own module, so that the compiler can inline the original's functions into the loop. The trace is judged first, as ours is, then run. A time call
 //! leaves its ticks owed, as document 02 asks, and code 9 works them off (baseline_ticks.rs).
 
+use super::board::{self, Board};
 use super::words::{words, Words, COMMAND_PORT};
 use super::*;
 use crate::lines::Lines;
@@ -83,6 +84,11 @@ impl Baseline {
             *channel = added::fresh(c, ptype);
         }
         Self { timer, bus: BusInterface::counting(), owed: 0 }
+    }
+
+    /// Where it stands, in the bytes of docs/ENCODING.md.
+    pub fn bytes(&self) -> Board {
+        board::dump(&self.timer, self.owed)
     }
 
     fn write(&mut self, port: u8, byte: u8) -> Reply {
