@@ -7,13 +7,14 @@
 //!     bench only NAME TURNS SIDE    one workload on one side (`ours` or `original`) some times over, for callgrind
 
 mod calls;
+mod checkpoints;
 mod doors;
 mod measure;
 mod ours;
 mod ticks;
 mod workloads;
 
-use measure::{head, medians, print_computed, print_row, print_two, two_head};
+use measure::{beside_head, head, medians, print_beside, print_computed, print_row, print_two, two_head};
 use original::pit::baseline;
 use std::collections::BTreeMap;
 use std::hint::black_box;
@@ -72,6 +73,11 @@ fn everything(repetitions: usize) {
     for workload in workloads::growing() {
         print_row(workload.name, whole(&workload, repetitions, [ours::replay, baseline::replay], true));
     }
+    beside_head("checkpoints: a mixed trace of 4,096 operations, beside our plain replay of it");
+    for (name, row) in checkpoints::rows(repetitions) {
+        print_beside(name, row);
+    }
+    println!("a figure is the whole call's, divided by the 4,096 operations of the trace");
     head("growth: answers of a mixed trace");
     for workload in workloads::growing() {
         print_row(workload.name, whole(&workload, repetitions, [ours::answers, baseline::answers], true));

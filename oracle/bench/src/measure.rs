@@ -85,3 +85,12 @@ pub fn two_head(what: &str) {
 pub fn print_two(name: &str, [old, new, original]: [f64; 3]) {
     println!("{name:<42} {old:>10.2} {new:>10.2} {:>7.2} {original:>10.2}", old / new);
 }
+
+/// A call of ours, our plain replay of the same trace, and the original's.
+pub fn beside_head(what: &str) {
+    println!("\n{what}\n{:<42} {:>10} {:>10} {:>7} {:>10}", "nanoseconds an operation, medians", "ours", "replay", "ratio", "original");
+}
+
+pub fn print_beside(name: &str, [ours, replay, original]: [f64; 3]) {
+    println!("{name:<42} {ours:>10.2} {replay:>10.2} {:>7.2} {original:>10.2}", ours / replay);
+}

@@ -42,6 +42,17 @@ mod c {
         ) -> u32;
         pub fn pit_replay(trace: *const u8, trace_len: usize, out: *mut u8, out_len: usize, answer: *mut u8, answer_len: usize) -> u32;
         pub fn pit_answers(trace: *const u8, trace_len: usize, out: *mut u8, out_len: usize, answer: *mut u8, answer_len: usize) -> u32;
+        pub fn pit_check(trace: *const u8, trace_len: usize, out: *mut u8, out_len: usize, answer: *mut u8, answer_len: usize) -> u32;
+        pub fn pit_mark(trace: *const u8, trace_len: usize, out: *mut u8, out_len: usize, answer: *mut u8, answer_len: usize) -> u32;
+        pub fn pit_replay_from(
+            trace: *const u8,
+            trace_len: usize,
+            out: *mut u8,
+            out_len: usize,
+            answer: *mut u8,
+            answer_len: usize,
+            checkpoint: u32,
+        ) -> u32;
         pub fn old_pit_answers(trace: *const u8, trace_len: usize, out: *mut u8, out_len: usize, answer: *mut u8, answer_len: usize) -> u32;
         pub fn old_pit_board_new(board: *mut u8, board_len: usize, model: u8, divisor: u32) -> u32;
         pub fn old_pit_board_operation(
@@ -96,7 +107,12 @@ fn whole(call: Whole, trace: &[u8], out: &mut [u8]) -> Option<usize> {
     let mut answer = [0; 16];
     // SAFETY: each pointer goes with the length of the slice that it comes from, and the three are apart.
     let status = unsafe { call(trace.as_ptr(), trace.len(), out.as_mut_ptr(), out.len(), answer.as_mut_ptr(), answer.len()) };
-    (status == 0).then(|| u64::from_le_bytes(answer[..8].try_into().expect("eight bytes")) as usize)
+    (status == 0).then(|| written(&answer))
+}
+
+/// How many bytes an answer says were written.
+fn written(answer: &[u8; 16]) -> usize {
+    u64::from_le_bytes(answer[..8].try_into().expect("eight bytes")) as usize
 }
 
 /// The answers of a trace at the front of `out`, and how many bytes they are.
@@ -112,6 +128,25 @@ pub fn old_answers(trace: &[u8], out: &mut [u8]) -> Option<usize> {
 /// What a replay of a trace prints at the front of `out`, and how many bytes that is.
 pub fn replay(trace: &[u8], out: &mut [u8]) -> Option<usize> {
     whole(c::pit_replay, trace, out)
+}
+
+/// The line of a full check at the front of `out`, and how many bytes it is.
+pub fn check(trace: &[u8], out: &mut [u8]) -> Option<usize> {
+    whole(c::pit_check, trace, out)
+}
+
+/// A trace with its section three at the front of `out`, and how many bytes it is.
+pub fn mark(trace: &[u8], out: &mut [u8]) -> Option<usize> {
+    whole(c::pit_mark, trace, out)
+}
+
+/// What a replay from a checkpoint prints at the front of `out`, and how many bytes that is.
+pub fn replay_from(trace: &[u8], out: &mut [u8], checkpoint: u32) -> Option<usize> {
+    let mut answer = [0; 16];
+    let (t, o, a) = (trace.as_ptr(), out.as_mut_ptr(), answer.as_mut_ptr());
+    // SAFETY: each pointer goes with the length of the slice that it comes from, and the three are apart.
+    let status = unsafe { c::pit_replay_from(t, trace.len(), o, out.len(), a, answer.len(), checkpoint) };
+    (status == 0).then(|| written(&answer))
 }
 
 /// Whether an archive's reads say which half they are and whether it was held: request L3. One of before leaves these numbers 0.
