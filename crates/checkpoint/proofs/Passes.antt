@@ -101,8 +101,8 @@ module _ (bytes : List ℕ) (t : Trace) (is : readTrace bytes ≡ sound t) where
   pub fails-exactly : ((f : Faulted) × (check bytes ≡ refusedBy f)) ↔ Differs bytes t
   fails-exactly = (
     λ found.
-    let n = checkpointsIn bytes (size t) in
-    let wrong = first-wrong bytes t 0 n (found .0) (of-refused (checkFrom bytes t 0 n) n (found .0) (sym check-is ∙ found .1)) in
-    (wrong .0, omega (arith, wrong .2), wrong .3),
+        let n = checkpointsIn bytes (size t) in
+        let wrong = first-wrong bytes t 0 n (found .0) (of-refused (checkFrom bytes t 0 n) n (found .0) (sym check-is ∙ found .1)) in
+        (wrong .0, omega (arith, wrong .2), wrong .3),
     λ d. differs-by (check bytes) refl d,
   )

@@ -79,8 +79,7 @@ module _ (form : Form) (trace : List ℕ) (first last : ℕ) (start : Board) (pl
   pub ended : last ≤ k
       → (telling b at out ≡ tellAll form first (foundFrom trace first (last - first)) (telling start place bytes)) × LeftShort form trace first last start
   ended h =
-      let none : last - k ≡ zero = omega arith in
-      (
+      let none : last - k ≡ zero = omega arith in (
         subst (λ (left : ℕ). tellAll form k (foundFrom trace k left) (telling b at out) ≡ Left form trace first last (telling start place bytes)) none (r .comes),
         r .short (rw none (omega arith)),
       )

@@ -8,11 +8,11 @@ pub mod operation;
 pub mod rule;
 pub mod section;
 
+use board_encoding::BOARD_SIZE;
 pub use head::read_head;
 pub use judging::judge;
 pub use operation::operation_at;
 pub use operation::operation_in;
-use board_encoding::BOARD_SIZE;
 use refusal::Refusal;
 
 // The settings and the operation count, four numbers.
@@ -29,10 +29,12 @@ pub const CHECKPOINT_EVERY: u32 = 256;
 // How many checkpoints there are, a number.
 pub const COUNT_SIZE: usize = 4;
 
-// All operations, and what follows them.
+// Where the last of as many operations as there can be ends.
 pub const OPERATIONS_END: usize = HEAD_SIZE + OPERATION_SIZE * (MOST_OPERATIONS as usize);
 
-pub const LONGEST_TRACE: usize = OPERATIONS_END + COUNT_SIZE + BOARD_SIZE * ((MOST_OPERATIONS / CHECKPOINT_EVERY) as usize);
+pub const LONGEST_TRACE: usize = OPERATIONS_END
+    + COUNT_SIZE
+    + BOARD_SIZE * ((MOST_OPERATIONS / CHECKPOINT_EVERY) as usize);
 
 // Why a trace is refused, and where: at the place of the field that breaks its rule, at the whole length where bytes are missing, at the first byte
 // too many.
