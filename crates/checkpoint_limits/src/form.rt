@@ -1,15 +1,17 @@
 // Faults of form in section three: 9, 17 and 13 at their first and at their last places, and their order.
 use crate::making::ROOM;
-use crate::making::end_of;
 use crate::making::put_marked;
 use crate::making::put_number;
+use crate::making::put_plain;
 use crate::readers::show_by_all;
 
 // A trace of so many operations with its checkpoints, the count of them and its length as the case has them.
 fn case(name: &[u8], source: &[u8], operations: u32, count: u32, length: usize) {
+    let mut plain = [0u8; ROOM];
+    let end = put_plain(source, operations, &mut plain);
     let mut trace = [0u8; ROOM];
-    put_marked(source, operations, &mut trace);
-    put_number(&mut trace, end_of(operations), count);
+    put_marked(&plain, end, &mut trace);
+    put_number(&mut trace, end, count);
     show_by_all(name, &trace, length);
 }
 

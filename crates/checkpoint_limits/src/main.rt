@@ -1,11 +1,10 @@
 // Checkpoints at their limits, for every reader of a trace: the plain replay, the full check, the replay from a checkpoint and the one that marks. The trace on
 // standard input is `marked` of traces/: 600 operations and two checkpoints. Longer and shorter ones are made of its operations.
-mod changed;
+mod each_place;
 mod form;
 mod lines;
 mod making;
 mod older;
-mod prefixes;
 mod readers;
 mod rooms;
 mod sizes;
@@ -14,8 +13,8 @@ mod wrong;
 use libc::STDIN_FILENO;
 
 fn show_all(marked: &[u8]) {
-    prefixes::show_all(marked);
-    changed::show_all(marked);
+    each_place::show_prefixes(marked);
+    each_place::show_changes(marked);
     sizes::show_all(marked);
     form::show_all(marked);
     wrong::show_all(marked);

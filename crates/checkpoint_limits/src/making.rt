@@ -1,39 +1,57 @@
 // Traces made of the operations of another, and bytes changed in them.
 use runner::lending::Replayed;
+ghost use mathlib.Core.Path.{_≡_};
+ghost use Prim.Native.Nat.{_+_, _-_, _*_};
+ghost use lib.ListN.{getD, set};
+ghost use Rattle.numbers.specs.Little.{fourBytes};
+ghost use Rattle.text.specs.Put.{put, answered};
+ghost use Rattle.checkpoint_limits.specs.Made.{operationBytes, plainFor, markedFirst};
 
 // The longest trace, and a byte more.
 pub(crate) const ROOM: usize = trace::LONGEST_TRACE + 1;
 
-pub(crate) fn byte_at(bytes: &[u8], place: usize) -> u8 {
+pub(crate) fn byte_at(bytes: &[u8], place: usize) -> u8
+    ensures { λ r. ⌜ r ≡ getD (now (bytes .entry)) place 0 ⌝ }
+{
     if place < bytes.len() {
         return bytes[place];
     }
     0
 }
 
-pub(crate) fn put_byte(bytes: &mut [u8], place: usize, byte: u8) {
+pub(crate) fn put_byte(bytes: &mut [u8], place: usize, byte: u8)
+    ensures { λ _. ⌜ now (bytes .exit) ≡ set (now (bytes .entry)) place byte ⌝ }
+{
     if place < bytes.len() {
         bytes[place] = byte;
     }
 }
 
-pub(crate) fn put_number(bytes: &mut [u8], place: usize, number: u32) {
+pub(crate) fn put_number(bytes: &mut [u8], place: usize, number: u32)
+    ensures { λ _. ⌜ now (bytes .exit) ≡ (put (fourBytes number) (now (bytes .entry)) place) .bytes ⌝ }
+{
     let four = numbers::four_bytes(number);
     text::put(bytes, place, &four);
 }
 
 // Where the operations end.
-pub(crate) fn end_of(operations: u32) -> usize {
+pub(crate) fn end_of(operations: u32) -> usize
+    ensures { λ r. ⌜ r ≡ 16 + 6 * operations ⌝ }
+{
     16 + 6 * (operations as usize)
 }
 
 // Where a byte of a checkpoint stands.
-pub(crate) fn place_in(operations: u32, k: u32, byte: u8) -> usize {
+pub(crate) fn place_in(operations: u32, k: u32, byte: u8) -> usize
+    ensures { λ r. ⌜ r ≡ 16 + 6 * operations + 4 + 111 * k + byte ⌝ }
+{
     16 + 6 * (operations as usize) + 4 + 111 * (k as usize) + (byte as usize)
 }
 
 // The bytes of the source's 600 operations, over and over.
-fn put_operations(source: &[u8], end: usize, out: &mut [u8]) {
+fn put_operations(source: &[u8], end: usize, out: &mut [u8])
+    ensures { λ _. ⌜ now (out .exit) ≡ operationBytes (now (source .entry)) 16 (end - 16) (now (out .entry)) ⌝ }
+{
     let mut place = 16;
     while place < end {
         put_byte(out, place, byte_at(source, 16 + (place - 16) % 3600));
@@ -41,8 +59,10 @@ fn put_operations(source: &[u8], end: usize, out: &mut [u8]) {
     }
 }
 
-// A trace of so many operations, without checkpoints.
-pub(crate) fn put_plain(source: &[u8], operations: u32, out: &mut [u8]) -> usize {
+// A trace of so many operations, without checkpoints, and where it ends.
+pub(crate) fn put_plain(source: &[u8], operations: u32, out: &mut [u8]) -> usize
+    ensures { λ r. ⌜ answered r (now (out .exit)) ≡ plainFor (now (source .entry)) operations (now (out .entry)) ⌝ }
+{
     text::put(out, 0, source);
     put_number(out, 12, operations);
     let end = end_of(operations);
@@ -50,15 +70,17 @@ pub(crate) fn put_plain(source: &[u8], operations: u32, out: &mut [u8]) -> usize
     end
 }
 
-// The same with its checkpoints.
-pub(crate) fn put_marked(source: &[u8], operations: u32, out: &mut [u8]) -> usize {
-    let mut plain = [0u8; ROOM];
-    let end = put_plain(source, operations, &mut plain);
-    if end <= plain.len() {
-        let marked = checkpoint::mark_into(&plain[0..end], out);
-        if let Replayed::Written(n) = marked {
-            return n;
-        }
+// So many bytes of a trace with their checkpoints, and where it ends: 0 where there is none.
+pub(crate) fn put_marked(plain: &[u8], end: usize, out: &mut [u8]) -> usize
+    ensures { λ r. ⌜ answered r (now (out .exit)) ≡ markedFirst (now (plain .entry)) end (now (out .entry)) ⌝ }
+{
+    if plain.len() < end {
+        return 0;
     }
-    0
+    let marked = checkpoint::mark_into(&plain[0..end], out);
+    match marked {
+        Replayed::Written(n) => n,
+        Replayed::Refused(_) => 0,
+        Replayed::Short => 0,
+    }
 }

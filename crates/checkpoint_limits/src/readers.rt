@@ -3,6 +3,9 @@ use crate::lines::say;
 use crate::lines::say_last_line;
 use crate::lines::say_number;
 use runner::lending::Replayed;
+ghost use mathlib.Core.Path.{_≡_};
+ghost use Rattle.runner.specs.Lent.{replayed};
+ghost use Rattle.checkpoint_limits.specs.Asked.{asked};
 
 // Room for all that any of them writes.
 pub(crate) const TEXT: usize = runner::TEXT_ROOM;
@@ -15,7 +18,9 @@ pub(crate) enum Reader {
     Mark,
 }
 
-pub(crate) fn ask(reader: Reader, trace: &[u8], out: &mut [u8]) -> Replayed {
+pub(crate) fn ask(reader: Reader, trace: &[u8], out: &mut [u8]) -> Replayed
+    ensures { λ r. ⌜ replayed r (now (out .exit)) ≡ asked reader (now (trace .entry)) (now (out .entry)) ⌝ }
+{
     match reader {
         Reader::Replay => runner::replay_into(trace, out),
         Reader::Check => checkpoint::check_into(trace, out),

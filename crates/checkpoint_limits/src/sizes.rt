@@ -1,5 +1,4 @@
 // Traces of several lengths: marked, checked, marked again, replayed with checkpoints and without, and replayed from each checkpoint.
-use crate::lines::number_of_lines;
 use crate::lines::say;
 use crate::lines::say_number;
 use crate::making::ROOM;
@@ -10,6 +9,7 @@ use crate::readers::TEXT;
 use crate::readers::ask;
 use crate::readers::show;
 use runner::lending::Replayed;
+ghost use Prim.Native.Nat.{_≤_};
 
 // How many bytes a reader wrote.
 fn written(reader: Reader, trace: &[u8], out: &mut [u8]) -> usize {
@@ -61,6 +61,22 @@ fn is_replayed_alike(plain: &[u8], marked: &[u8]) -> bool {
     same_first(&without, &with, n)
 }
 
+fn ends_line(byte: u8) -> usize
+    ensures { λ r. ⌜ r ≤ 1 ⌝ }
+{
+    if byte == b'\n' { 1 } else { 0 }
+}
+
+fn number_of_lines(text: &[u8]) -> usize {
+    let mut number = 0;
+    let mut i = 0;
+    while i < text.len() {
+        number += ends_line(text[i]);
+        i += 1;
+    }
+    number
+}
+
 // Whether so many bytes of a text are the last ones of so many bytes of another, and that many lines.
 fn is_tail(text: &[u8], n: usize, whole: &[u8], m: usize, lines: usize) -> bool {
     if text.len() < n {
@@ -89,7 +105,7 @@ fn lines_from(operations: u32, k: u32) -> usize {
 }
 
 // Whether the replay from a checkpoint says what the whole replay says of the operations behind it, and its end.
-pub(crate) fn is_tail_from(marked: &[u8], operations: u32, k: u32) -> bool {
+fn is_tail_from(marked: &[u8], operations: u32, k: u32) -> bool {
     let mut whole = [0u8; TEXT];
     let mut text = [0u8; TEXT];
     let m = written(Reader::Replay, marked, &mut whole);
@@ -126,7 +142,7 @@ fn show_size(source: &[u8], operations: u32) {
     let mut plain = [0u8; ROOM];
     let n = put_plain(source, operations, &mut plain);
     let mut marked = [0u8; ROOM];
-    let m = put_marked(source, operations, &mut marked);
+    let m = put_marked(&plain, n, &mut marked);
     if n <= plain.len() {
         if m <= marked.len() {
             show_pair(&plain[0..n], &marked[0..m], operations);

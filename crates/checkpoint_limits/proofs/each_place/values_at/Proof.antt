@@ -1,10 +1,10 @@
--- `checkpoint_limits::changed::values_at` is safe and ends. Assumes nothing.
+-- `checkpoint_limits::each_place::values_at` is safe and ends. Assumes nothing.
 use Prim.Native.Nat.{_-_, _≤_}
 use mathlib.Core.Path.{_≡_}
 use lib.ListN as list
 use borrow.Author.Needs.{needs}
-use Rattle.checkpoint_limits.proofs.changed.values_at.Statement.{statement}
-use Rattle.checkpoint_limits.proofs.changed.values_at.Tie as tie
+use Rattle.checkpoint_limits.proofs.each_place.values_at.Statement.{statement}
+use Rattle.checkpoint_limits.proofs.each_place.values_at.Tie as tie
 
 abbrev Inv-loop : tie.InvT-loop
 Inv-loop trace₀ length first place values own byte₀ seen₀ turns₀ trace byte seen turns = (seen ≤ turns) × (turns ≤ values) × (list.length trace ≡ list.length trace₀)

@@ -1,9 +1,9 @@
--- `checkpoint_limits::lines::number_of_lines` is safe and ends. Assumes nothing.
+-- `checkpoint_limits::sizes::number_of_lines` is safe and ends. Assumes nothing.
 use Prim.Native.Nat.{_-_, _≤_}
 use lib.ListN.{length}
 use borrow.Author.Needs.{needs}
-use Rattle.checkpoint_limits.proofs.lines.number_of_lines.Statement.{statement}
-use Rattle.checkpoint_limits.proofs.lines.number_of_lines.Tie as tie
+use Rattle.checkpoint_limits.proofs.sizes.number_of_lines.Statement.{statement}
+use Rattle.checkpoint_limits.proofs.sizes.number_of_lines.Tie as tie
 
 abbrev Inv-loop : tie.InvT-loop
 Inv-loop text number₀ i₀ number i = (number ≤ i) × (i ≤ length text)
