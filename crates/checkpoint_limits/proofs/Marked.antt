@@ -9,12 +9,12 @@ use Rattle.text.specs.Put.{answered}
 use Rattle.runner.specs.declared.lending.Replayed.{Replayed}
 use Rattle.runner.specs.Lent.{replyIn, replayed}
 use Rattle.checkpoint.specs.Mark.{markInto}
-use Rattle.checkpoint_limits.specs.Made.{written, behind, markedFirst}
+use Rattle.checkpoint_limits.specs.Made.{endWritten, endAndBytes, markedFirst}
 
 pub marked-made : (plain : List ℕ) (end : ℕ) (bytes : List ℕ) → end ≤ length plain → (r got : Replayed) (last : List ℕ) → r ≡ got
-    → replayed r last ≡ markInto (take (end - 0) plain) bytes → answered (written (replyIn got)) last ≡ markedFirst plain end bytes
+    → replayed r last ≡ markInto (take (end - 0) plain) bytes → answered (endWritten (replyIn got)) last ≡ markedFirst plain end bytes
 unfolding markedFirst
 marked-made plain end bytes fits r got last is e =
     let whole : end - 0 ≡ end = omega arith in
     rw (le-ltb (length plain) end fits)
-    (ap (λ (x : Replayed). answered (written (replyIn x)) last) (sym is) ∙ ap behind e ∙ ap (λ (n : ℕ). behind (markInto (take n plain) bytes)) whole)
+    (ap (λ (x : Replayed). answered (endWritten (replyIn x)) last) (sym is) ∙ ap endAndBytes e ∙ ap (λ (n : ℕ). endAndBytes (markInto (take n plain) bytes)) whole)

@@ -8,8 +8,8 @@ use Rattle.checkpoint.specs.Mark.{markInto}
 use Rattle.checkpoint_limits.specs.declared.readers.Reader.{Reader}
 use Rattle.checkpoint_limits.specs.declared.readers.Reader.the-variants.{Replay, Check, From, Mark}
 
-unfoldable pub asked : Reader → List ℕ → List ℕ → Replaying
-asked Replay trace bytes = replayInto trace bytes
-asked Check trace bytes = checkInto trace bytes
-asked (From k) trace bytes = replayFromInto trace k bytes
-asked Mark trace bytes = markInto trace bytes
+unfoldable pub writes : Reader → List ℕ → List ℕ → Replaying
+writes Replay trace bytes = replayInto trace bytes
+writes Check trace bytes = checkInto trace bytes
+writes (From k) trace bytes = replayFromInto trace k bytes
+writes Mark trace bytes = markInto trace bytes

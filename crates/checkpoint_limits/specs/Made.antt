@@ -11,24 +11,24 @@ use Rattle.runner.specs.Lent.{Replaying}
 use Rattle.checkpoint.specs.Mark.{markInto}
 
 -- as many bytes as are left, from a place on: those of the source's operations, over and over
-unfoldable pub operationBytes : List ℕ → ℕ → ℕ → List ℕ → List ℕ
-operationBytes source place zero bytes = bytes
-operationBytes source place (suc left) bytes = operationBytes source (suc place) left (set bytes place (getD source (16 + (place - 16) % 3600) 0))
+unfoldable pub overAndOver : List ℕ → ℕ → ℕ → List ℕ → List ℕ
+overAndOver source place zero bytes = bytes
+overAndOver source place (suc left) bytes = overAndOver source (suc place) left (set bytes place (getD source (16 + (place - 16) % 3600) 0))
 
 -- the source's head with another number of operations, and so many of them
 unfoldable pub plainFor : List ℕ → ℕ → List ℕ → Put
 plainFor source operations bytes =
     let head = (put (fourBytes operations) ((put source bytes 0) .bytes) 12) .bytes in
-    record { place = 16 + 6 * operations; bytes = operationBytes source 16 (6 * operations) head }
+    record { place = 16 + 6 * operations; bytes = overAndOver source 16 (6 * operations) head }
 
 -- no place behind what is not written
-abbrev pub written : Reply ℕ → ℕ
-written (accepted n) = n
-written (refused _) = 0
+abbrev pub endWritten : Reply ℕ → ℕ
+endWritten (accepted n) = n
+endWritten (refused _) = 0
 
-abbrev pub behind : Replaying → Put
-behind r = record { place = written (r .reply); bytes = r .bytes }
+abbrev pub endAndBytes : Replaying → Put
+endAndBytes r = record { place = endWritten (r .reply); bytes = r .bytes }
 
 -- so many bytes of a trace with their checkpoints
 unfoldable pub markedFirst : List ℕ → ℕ → List ℕ → Put
-markedFirst plain end bytes = cond (ltb (length plain) end) (record { place = 0; bytes = bytes }) (behind (markInto (take end plain) bytes))
+markedFirst plain end bytes = cond (ltb (length plain) end) (record { place = 0; bytes = bytes }) (endAndBytes (markInto (take end plain) bytes))

@@ -5,7 +5,7 @@ ghost use Prim.Native.Nat.{_+_, _-_, _*_};
 ghost use lib.ListN.{getD, set};
 ghost use Rattle.numbers.specs.Little.{fourBytes};
 ghost use Rattle.text.specs.Put.{put, answered};
-ghost use Rattle.checkpoint_limits.specs.Made.{operationBytes, plainFor, markedFirst};
+ghost use Rattle.checkpoint_limits.specs.Made.{overAndOver, plainFor, markedFirst};
 
 // The longest trace, and a byte more.
 pub(crate) const ROOM: usize = trace::LONGEST_TRACE + 1;
@@ -50,7 +50,7 @@ pub(crate) fn place_in(operations: u32, k: u32, byte: u8) -> usize
 
 // The bytes of the source's 600 operations, over and over.
 fn put_operations(source: &[u8], end: usize, out: &mut [u8])
-    ensures { λ _. ⌜ now (out .exit) ≡ operationBytes (now (source .entry)) 16 (end - 16) (now (out .entry)) ⌝ }
+    ensures { λ _. ⌜ now (out .exit) ≡ overAndOver (now (source .entry)) 16 (end - 16) (now (out .entry)) ⌝ }
 {
     let mut place = 16;
     while place < end {

@@ -5,7 +5,7 @@ use crate::lines::say_number;
 use runner::lending::Replayed;
 ghost use mathlib.Core.Path.{_≡_};
 ghost use Rattle.runner.specs.Lent.{replayed};
-ghost use Rattle.checkpoint_limits.specs.Asked.{asked};
+ghost use Rattle.checkpoint_limits.specs.Asked.{writes};
 
 // Room for all that any of them writes.
 pub(crate) const TEXT: usize = runner::TEXT_ROOM;
@@ -19,7 +19,7 @@ pub(crate) enum Reader {
 }
 
 pub(crate) fn ask(reader: Reader, trace: &[u8], out: &mut [u8]) -> Replayed
-    ensures { λ r. ⌜ replayed r (now (out .exit)) ≡ asked reader (now (trace .entry)) (now (out .entry)) ⌝ }
+    ensures { λ r. ⌜ replayed r (now (out .exit)) ≡ writes reader (now (trace .entry)) (now (out .entry)) ⌝ }
 {
     match reader {
         Reader::Replay => runner::replay_into(trace, out),

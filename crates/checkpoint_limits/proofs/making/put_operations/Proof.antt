@@ -4,14 +4,14 @@ use mathlib.Core.Path.{_≡_, refl, sym, _∙_}
 use native.Mathlib.Omega.{arith}
 use lib.ListN.{length}
 use borrow.Author.Needs.{needs}
-use Rattle.checkpoint_limits.specs.Made.{operationBytes}
+use Rattle.checkpoint_limits.specs.Made.{overAndOver}
 use Rattle.checkpoint_limits.proofs.Operations.{goes-on, none-left}
 use Rattle.checkpoint_limits.proofs.making.put_operations.Statement.{statement}
 use Rattle.checkpoint_limits.proofs.making.put_operations.Tie as tie
 
 abbrev Inv-loop : tie.InvT-loop
 Inv-loop source end out₀ place₀ out place =
-    (16 ≤ place) × (length out ≡ length out₀) × (operationBytes source place (end - place) out ≡ operationBytes source 16 (end - 16) out₀)
+    (16 ≤ place) × (length out ≡ length out₀) × (overAndOver source place (end - place) out ≡ overAndOver source 16 (end - 16) out₀)
 
 abbrev μ-loop : tie.MeasureT-loop
 μ-loop source end out₀ place₀ out place = end - place
