@@ -10,6 +10,7 @@ use runner::lending::Replayed;
 use runner::put_sentence;
 use trace::CHECKPOINT_EVERY;
 use trace::Fault;
+use trace::Within;
 use trace::head::Head;
 use trace::head::Judged;
 use trace::section::checkpoint_place;
@@ -60,6 +61,7 @@ fn compare(trace: &[u8], head: Head, number: u32) -> Checked
             return Checked::Refused(Fault {
                 refusal: Refusal::CheckpointWrong,
                 place,
+                within: Within::Outside,
             });
         }
     }

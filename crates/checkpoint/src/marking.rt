@@ -63,10 +63,7 @@ pub fn mark_into(trace: &[u8], out: &mut [u8]) -> Replayed
 {
     let judged = trace::judge(trace);
     match judged {
-        Judged::Refused(fault) => {
-            let refusal = fault.refusal;
-            Replayed::Refused(refusal)
-        }
+        Judged::Refused(fault) => Replayed::Refused(fault),
         Judged::Sound(head) => {
             let operations = head.operations;
             if out.len() < checkpoint_place(operations, checkpoints_of(operations)) {

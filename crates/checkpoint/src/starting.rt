@@ -12,12 +12,13 @@ use runner::lending::Replayed;
 use runner::put_sentence;
 use trace::CHECKPOINT_EVERY;
 use trace::Fault;
+use trace::Within;
 use trace::head::Head;
 use trace::head::Judged;
 use trace::section::checkpoint_place;
 ghost use mathlib.Core.Path.{_≡_};
 ghost use Prim.Native.Nat.{suc, _-_, _*_, _≤_};
-ghost use Rattle.trace.specs.Judgement.{sound};
+ghost use Rattle.trace.specs.Judgement.{sound, faultAt};
 ghost use Rattle.trace.specs.Section.{sectionThree};
 ghost use Rattle.trace.specs.Answer.{faultOf};
 ghost use Rattle.line.specs.Line.{lineRoom};
@@ -37,13 +38,14 @@ fn say_fault(out: &mut [u8], fault: Fault) -> Replayed
 
 // No replay begins here: refusal 18.
 fn say_wrong(out: &mut [u8], place: usize) -> Replayed
-    ensures { λ r. ⌜ replayed r (now (out .exit)) ≡ inRoom lineRoom (faultLine (record { number = 18; place = place })) (now (out .entry)) ⌝ }
+    ensures { λ r. ⌜ replayed r (now (out .exit)) ≡ inRoom lineRoom (faultLine (faultAt 18 place)) (now (out .entry)) ⌝ }
 {
     say_fault(
         out,
         Fault {
             refusal: Refusal::CheckpointWrong,
             place,
+            within: Within::Outside,
         },
     )
 }

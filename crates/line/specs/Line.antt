@@ -4,7 +4,7 @@ use mathlib.Core.List.{List, _++_}
 use lib.ListN.{length, replicate}
 use Rattle.line.specs.declared.Line.{Line}
 
--- room for every line: an operation's has at most 63 bytes, whatever its index, a fault's at most 41
+-- room for every line: an operation's has at most 63 bytes, whatever its index, and so has a fault's, whatever its place and index
 abbrev pub lineRoom : ℕ
 lineRoom = 64
 

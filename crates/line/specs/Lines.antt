@@ -1,5 +1,5 @@
 -- Document 01, "Recorded traces": the lines that the replay program prints. "A read byte prints as two upper-case hex digits, all other numbers in
--- decimal." Document 02's L3 adds two words to the read line.
+-- decimal." Document 02's L3 adds two words to the read line, and L8 the index to a fault's.
 use Prim.Native.Nat.{ℕ, _+_}
 use mathlib.Core.Bool.{Bool, true, false, cond}
 use mathlib.Core.List.{List, [], _++_}
@@ -12,6 +12,8 @@ use Rattle.latch.specs.declared.label.WhichHalf.{WhichHalf}
 use Rattle.latch.specs.declared.label.WhichHalf.the-variants.{Low, High, Neither}
 use Rattle.board.specs.declared.PortRead.{PortRead}
 use Rattle.board.specs.Outcome.{Value, done, newPlace, byte, ticks, outputState, channelCount, retriggers, dirtyMarks, timerAccum, worked}
+use Rattle.trace.specs.declared.Within.{Within}
+use Rattle.trace.specs.declared.Within.the-variants.{Outside, InOperation}
 use Rattle.trace.specs.Judgement.{Faulted}
 use Rattle.text.specs.Ascii.{ascii}
 use Rattle.text.specs.Number.{decimal, hex}
@@ -102,6 +104,11 @@ endLine number = ascii "end " ++ decimal number ++ newline
 unfoldable pub checkedLine : ℕ → List ℕ
 checkedLine number = ascii "checked " ++ decimal number ++ newline
 
+-- "The line becomes `trace refused N at P operation I`. The older line stays for faults outside operations" (02, L8)
+abbrev pub withinText : Within → List ℕ
+withinText Outside = []
+withinText (InOperation index) = ascii " operation " ++ decimal index
+
 -- "a fault prints only `trace refused N at P`"
 unfoldable pub faultLine : Faulted → List ℕ
-faultLine f = ascii "trace refused " ++ decimal (f .number) ++ ascii " at " ++ decimal (f .place) ++ newline
+faultLine f = ascii "trace refused " ++ decimal (f .number) ++ ascii " at " ++ decimal (f .place) ++ withinText (f .within) ++ newline

@@ -6,12 +6,15 @@ use channel::PitType;
 pub use operation::operation_line;
 pub use sentence::line_of;
 use trace::Fault;
+use trace::Within;
 ghost use mathlib.Core.Path.{_≡_};
-ghost use Prim.Native.Nat.{_≤_};
+ghost use Prim.Native.Nat.{_+_, _≤_};
 ghost use lib.ListN.{length};
+ghost use Rattle.text.specs.Put.{put, answered};
 ghost use Rattle.trace.specs.Answer.{faultOf};
 ghost use Rattle.line.specs.Line.{lineOf, lineRoom};
-ghost use Rattle.line.specs.Lines.{modelName, headLine, endLine, checkedLine, faultLine};
+ghost use Rattle.line.specs.Inner.{withinRoom};
+ghost use Rattle.line.specs.Lines.{modelName, headLine, endLine, checkedLine, withinText, faultLine};
 
 // No line has more bytes.
 pub const LINE_ROOM: usize = 64;
@@ -64,6 +67,19 @@ pub fn checked_line(number: u32) -> Line
     Line { bytes, len: place }
 }
 
+fn put_within(out: &mut [u8], place: usize, within: Within) -> usize
+    requires { ⌜ place + withinRoom ≤ length (now out) ⌝ }
+    ensures { λ r. ⌜ (answered r (now (out .exit)) ≡ put (withinText within) (now (out .entry)) place) × (length (withinText within) ≤ withinRoom) ⌝ }
+{
+    match within {
+        Within::Outside => place,
+        Within::InOperation(index) => {
+            let next = text::put(out, place, b" operation ");
+            text::put_decimal(out, next, index as u64)
+        }
+    }
+}
+
 pub fn fault_line(fault: Fault) -> Line
     ensures { λ r. ⌜ (r ≡ lineOf (faultLine (faultOf fault))) × (length (faultLine (faultOf fault)) ≤ lineRoom) ⌝ }
 {
@@ -73,6 +89,7 @@ pub fn fault_line(fault: Fault) -> Line
     place = text::put_decimal(&mut bytes, place, refusal.number() as u64);
     place = text::put(&mut bytes, place, b" at ");
     place = text::put_decimal(&mut bytes, place, fault.place as u64);
+    place = put_within(&mut bytes, place, fault.within);
     place = text::put(&mut bytes, place, b"\n");
     Line { bytes, len: place }
 }

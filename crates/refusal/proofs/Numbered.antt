@@ -6,17 +6,17 @@ use mathlib.Core.Bool.{false}
 use lib.Dec.{eqb, ltb}
 use lib.ListN.{getD}
 use Rattle.refusal.specs.declared.Refusal.{Refusal}
-use Rattle.refusal.specs.declared.Refusal.the-variants.{PortUnknown, ChannelAbove2, DivisorZero, TicksBelowWarp, RemainderTooLarge, PlacePastEnd, NoRoom, TraceEnds, SettingsCount, TooManyOperations, UnknownCode, BytesAfter, RuleBroken, TooManyTicks, TicksOwed, CheckpointCount, CheckpointWrong}
+use Rattle.refusal.specs.declared.Refusal.the-variants.{PortUnknown, ChannelAbove2, DivisorZero, TicksBelowWarp, RemainderTooLarge, PlacePastEnd, NoRoom, TraceEnds, SettingsCount, TooManyOperations, UnknownCode, BytesAfter, TooManyTicks, TicksOwed, CheckpointCount, CheckpointWrong, TargetNotZero, NumberNotZero, TooLarge}
 use Rattle.refusal.specs.Refusal.{refusalNumber}
 use Rattle.refusal.proofs.Apart.{apart-by}
 
--- no refusal has the number 0, 6, or one above 18; some refusal stands there too
+-- no refusal has the number 0, 6, 14, or one above 21; some refusal stands there too
 abbrev pub refusalNumbered : ℕ → Refusal
 refusalNumbered number =
     getD
-    (PortUnknown ∷ PortUnknown ∷ ChannelAbove2 ∷ DivisorZero ∷ TicksBelowWarp ∷ RemainderTooLarge ∷ PlacePastEnd ∷ PlacePastEnd ∷ NoRoom ∷ TraceEnds ∷ SettingsCount ∷ TooManyOperations ∷ UnknownCode ∷ BytesAfter ∷ RuleBroken ∷ TooManyTicks ∷ TicksOwed ∷ CheckpointCount ∷ CheckpointWrong ∷ [])
+    (PortUnknown ∷ PortUnknown ∷ ChannelAbove2 ∷ DivisorZero ∷ TicksBelowWarp ∷ RemainderTooLarge ∷ PlacePastEnd ∷ PlacePastEnd ∷ NoRoom ∷ TraceEnds ∷ SettingsCount ∷ TooManyOperations ∷ UnknownCode ∷ BytesAfter ∷ TooManyTicks ∷ TooManyTicks ∷ TicksOwed ∷ CheckpointCount ∷ CheckpointWrong ∷ TargetNotZero ∷ NumberNotZero ∷ TooLarge ∷ [])
     number
-    RuleBroken
+    TooLarge
 
 -- the one law that goes through the table: a number is not 0, which says that nothing is refused; it lies below the numbers of the byte forms, which begin at 101;
 -- and its refusal is found again from it
@@ -33,11 +33,13 @@ in-table SettingsCount = (refl, refl, refl)
 in-table TooManyOperations = (refl, refl, refl)
 in-table UnknownCode = (refl, refl, refl)
 in-table BytesAfter = (refl, refl, refl)
-in-table RuleBroken = (refl, refl, refl)
 in-table TooManyTicks = (refl, refl, refl)
 in-table TicksOwed = (refl, refl, refl)
 in-table CheckpointCount = (refl, refl, refl)
 in-table CheckpointWrong = (refl, refl, refl)
+in-table TargetNotZero = (refl, refl, refl)
+in-table NumberNotZero = (refl, refl, refl)
+in-table TooLarge = (refl, refl, refl)
 
 pub number-set : (r : Refusal) → eqb (refusalNumber r) 0 ≡ false
 number-set r = in-table r .0

@@ -1,7 +1,8 @@
--- Document 01, "Refusal numbers": the number of each refusal; request L1 adds two, L6 takes one away, and L7 adds two.
+-- Document 01, "Refusal numbers": the number of each refusal; request L1 adds two, L6 takes one away, L7 adds two, and L8 splits one into
+-- three.
 use Prim.Native.Nat.{ℕ}
 use Rattle.refusal.specs.declared.Refusal.{Refusal}
-use Rattle.refusal.specs.declared.Refusal.the-variants.{PortUnknown, ChannelAbove2, DivisorZero, TicksBelowWarp, RemainderTooLarge, PlacePastEnd, NoRoom, TraceEnds, SettingsCount, TooManyOperations, UnknownCode, BytesAfter, RuleBroken, TooManyTicks, TicksOwed, CheckpointCount, CheckpointWrong}
+use Rattle.refusal.specs.declared.Refusal.the-variants.{PortUnknown, ChannelAbove2, DivisorZero, TicksBelowWarp, RemainderTooLarge, PlacePastEnd, NoRoom, TraceEnds, SettingsCount, TooManyOperations, UnknownCode, BytesAfter, TooManyTicks, TicksOwed, CheckpointCount, CheckpointWrong, TargetNotZero, NumberNotZero, TooLarge}
 
 abbrev pub refusalNumber : Refusal → ℕ
 -- "port not 0x40 to 0x43"
@@ -29,8 +30,7 @@ refusalNumber TooManyOperations = 11
 refusalNumber UnknownCode = 12
 -- "bytes after the last operation"; "13 means bytes after the last section present" (02, L7)
 refusalNumber BytesAfter = 13
--- "a trace's model, target or number breaks its rule"
-refusalNumber RuleBroken = 14
+-- 14 was "a trace's model, target or number breaks its rule". Request L8 splits it into 19, 20 and 21: "14 is no longer given"
 -- "15 for a stated number above 65,536" (02, L1)
 refusalNumber TooManyTicks = 15
 -- "16 for a port write, gate, reset, catch-up or run while ticks are owed" (02, L1)
@@ -39,3 +39,9 @@ refusalNumber TicksOwed = 16
 refusalNumber CheckpointCount = 17
 -- "18 for the first checkpoint whose bytes differ, unreadable ones too", and "for a replay from one that is missing or unreadable" (02, L7)
 refusalNumber CheckpointWrong = 18
+-- "19 target not 0 where it must be" (02, L8)
+refusalNumber TargetNotZero = 19
+-- "20 number not 0 where it must be" (02, L8)
+refusalNumber NumberNotZero = 20
+-- "21 number or model too large" (02, L8)
+refusalNumber TooLarge = 21

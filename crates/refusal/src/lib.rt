@@ -1,5 +1,5 @@
-// Why a call or a trace is refused: document 01's table of refusal numbers, and those that requests L1 and L7 of document 02 add. The table's 6 is gone:
-// request L6 lifts the limit that it stood for.
+// Why a call or a trace is refused: document 01's table of refusal numbers, and those that requests L1, L7 and L8 of document 02 add. Two of the table's are gone:
+// request L6 lifts the limit that 6 stood for, and L8 splits 14.
 ghost use mathlib.Core.Path.{_≡_};
 ghost use Rattle.refusal.specs.Refusal.{refusalNumber};
 
@@ -16,11 +16,13 @@ pub enum Refusal {
     TooManyOperations,
     UnknownCode,
     BytesAfter,
-    RuleBroken,
     TooManyTicks,
     TicksOwed,
     CheckpointCount,
     CheckpointWrong,
+    TargetNotZero,
+    NumberNotZero,
+    TooLarge,
 }
 
 impl Refusal {
@@ -41,11 +43,14 @@ impl Refusal {
             Refusal::TooManyOperations => 11,
             Refusal::UnknownCode => 12,
             Refusal::BytesAfter => 13,
-            Refusal::RuleBroken => 14,
+            // 14 is not given again.
             Refusal::TooManyTicks => 15,
             Refusal::TicksOwed => 16,
             Refusal::CheckpointCount => 17,
             Refusal::CheckpointWrong => 18,
+            Refusal::TargetNotZero => 19,
+            Refusal::NumberNotZero => 20,
+            Refusal::TooLarge => 21,
         }
     }
 }

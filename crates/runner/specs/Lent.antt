@@ -1,12 +1,14 @@
 -- docs/ENCODING.md, `pit_replay` and `pit_answers`: a trace replayed into lent bytes of any length.
-use Prim.Native.Nat.{ℕ, _+_, _*_}
+use Prim.Native.Nat.{ℕ, suc, _+_, _*_}
 use mathlib.Core.Bool.{cond}
 use mathlib.Core.List.{List, _++_}
 use lib.Dec.{ltb}
 use lib.ListN.{length, drop}
 use Rattle.refusal.specs.Reply.{Reply, refused, accepted}
-use Rattle.refusal.specs.Refusal.{refusalNumber}
-use Rattle.trace.specs.Judgement.{Judgement, refusedBy, sound}
+use Rattle.trace.specs.declared.Within.{Within}
+use Rattle.trace.specs.declared.Within.the-variants.{Outside, InOperation}
+use Rattle.trace.specs.Judgement.{Judgement, Faulted, refusedBy, sound}
+use Rattle.trace.specs.Answer.{faultOf}
 use Rattle.trace.specs.Trace.{Trace, readTrace}
 use Rattle.board.specs.Making.{fresh}
 use Rattle.line.specs.Line.{lineRoom}
@@ -39,9 +41,17 @@ replayInto trace bytes = inRoom (roomFor (readTrace trace)) (printed trace) byte
 abbrev pub answersOf : Trace → List ℕ
 answersOf t = toldFrom Answers (fresh (t .model) (t .divisor)) 0 (t .operations)
 
--- "3, 9 to 14 and 17 of the trace, 105"; "16 for each operation"
+-- "Of a trace that is refused, the number; inside operation I, 256 x (I + 1) more"
+abbrev pub indexCounted : Within → ℕ
+indexCounted Outside = 0
+indexCounted (InOperation index) = suc index
+
+abbrev pub statusOf : Faulted → ℕ
+statusOf f = f .number + 256 * indexCounted (f .within)
+
+-- "the trace's refusal, 105"; "16 for each operation"
 abbrev pub answersJudged : Judgement Trace → List ℕ → Replaying
-answersJudged (refusedBy f) bytes = record { reply = refused (f .number); bytes = bytes }
+answersJudged (refusedBy f) bytes = record { reply = refused (statusOf f); bytes = bytes }
 answersJudged (sound t) bytes = inRoom (roomOf Answers * length (t .operations)) (answersOf t) bytes
 
 unfoldable pub answersInto : List ℕ → List ℕ → Replaying
@@ -50,7 +60,7 @@ answersInto trace bytes = answersJudged (readTrace trace) bytes
 -- what the code answers, with the lent bytes at its end
 abbrev pub replyIn : Replayed → Reply ℕ
 replyIn (Written n) = accepted n
-replyIn (Refused refusal) = refused (refusalNumber refusal)
+replyIn (Refused fault) = refused (statusOf (faultOf fault))
 replyIn Short = refused 105
 
 abbrev pub replayed : Replayed → List ℕ → Replaying

@@ -7,16 +7,16 @@ use crate::tell;
 use board::Board;
 use line::LINE_ROOM;
 use line::sentence::Sentence;
-use refusal::Refusal;
+use trace::Fault;
 use trace::head::Judged;
 ghost use mathlib.Core.Path.{_≡_};
 ghost use Rattle.runner.specs.Lent.{replayed, replayInto, answersInto};
 
-// What comes of a replay into lent bytes: how many bytes were written to their front, the trace's refusal, or too few bytes lent. But for the first
+// What comes of a replay into lent bytes: how many bytes were written to their front, the trace's fault, or too few bytes lent. But for the first
 // no lent byte changes.
 pub enum Replayed {
     Written(usize),
-    Refused(Refusal),
+    Refused(Fault),
     Short,
 }
 
@@ -48,10 +48,7 @@ pub fn answers_into(trace: &[u8], out: &mut [u8]) -> Replayed
 {
     let judged = trace::judge(trace);
     match judged {
-        Judged::Refused(fault) => {
-            let refusal = fault.refusal;
-            Replayed::Refused(refusal)
-        }
+        Judged::Refused(fault) => Replayed::Refused(fault),
         Judged::Sound(head) => {
             let number = head.operations;
             if out.len() < TRACE_ANSWER_SIZE * (number as usize) {

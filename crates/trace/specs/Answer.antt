@@ -9,12 +9,12 @@ use Rattle.trace.specs.declared.head.Judged.the-variants as judged
 use Rattle.trace.specs.declared.operation.Operation.{Operation}
 use Rattle.trace.specs.declared.operation.OperationJudged.{OperationJudged}
 use Rattle.trace.specs.declared.operation.OperationJudged.the-variants as operation
-use Rattle.trace.specs.Judgement.{Judgement, Faulted, refusedBy, sound, faultAt, andThen}
+use Rattle.trace.specs.Judgement.{Judgement, Faulted, refusedBy, sound, andThen}
 use Rattle.trace.specs.Trace.{Trace}
 
--- "its number" and "P" of a fault
+-- "its number", "P" and "operation I" of a fault
 abbrev pub faultOf : Fault → Faulted
-faultOf f = faultAt (refusalNumber (f .refusal)) (f .place)
+faultOf f = record { number = refusalNumber (f .refusal); place = f .place; within = f .within }
 
 -- what `read_head` and `judge` answer
 abbrev pub headJudged : Judged → Judgement Head

@@ -17,11 +17,12 @@ field bytes place broken number after = present bytes (place + 4) (ruled (broken
 abbrev pub headOf : List ℕ → Head
 headOf bytes = record { divisor = numberAt bytes 4; model = modelNumbered (numberAt bytes 8); operations = numberAt bytes 12 }
 
--- 10 "settings count not 2"; "A zero divisor is 3."; 14 "a trace's model ... breaks its rule"; 11 "operation count above 4,096"
+-- 10 "settings count not 2"; "A zero divisor is 3."; 21 "number or model too
+-- large" (02, L8); 11 "operation count above 4,096"
 unfoldable pub readHead : List ℕ → Judgement Head
 readHead bytes =
     field bytes 0 (λ count. not (eqb count 2)) 10
     (field bytes 4 (λ divisor. eqb divisor 0) 3
-    (field bytes 8 (λ model. ltb 1 model) 14
+    (field bytes 8 (λ model. ltb 1 model) 21
     (field bytes 12 (λ operations. ltb mostOperations operations) 11
     (sound (headOf bytes)))))

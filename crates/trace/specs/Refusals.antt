@@ -1,4 +1,4 @@
--- Document 01, "Refusal numbers" and "Recorded traces", and document 02, L7: the table's conditions for a trace, each with its place, in the order in which they are
+-- Document 01, "Refusal numbers" and "Recorded traces", and document 02, L7 and L8: the table's conditions for a trace, each with its place, in the order in which they are
 -- tested.
 use Prim.Native.Nat.{ℕ, zero, suc, _+_, _<_, _≤_}
 use mathlib.Core.List.{List, [], _∷_, _++_, map}
@@ -6,7 +6,7 @@ use mathlib.Core.Logic.{_⊎_}
 use mathlib.Core.Path.{_≡_}
 use lib.ListN.{length, getD}
 use Rattle.numbers.specs.Number.{numberAt}
-use Rattle.trace.specs.Judgement.{Faulted, faultAt}
+use Rattle.trace.specs.Judgement.{Faulted, faultAt, faultIn}
 use Rattle.trace.specs.Sizes.{operationSize, mostOperations, checkpointsOf, countSize}
 use Rattle.trace.specs.Operation.{placeOf}
 use Rattle.trace.specs.Section.{sectionEnd}
@@ -28,33 +28,55 @@ settingsCount bytes = record { fault = faultAt 10 0; condition = numberAt bytes 
 abbrev pub divisorZero : List ℕ → Row
 divisorZero bytes = record { fault = faultAt 3 4; condition = numberAt bytes 4 ≡ 0 }
 
--- 14: "a trace's model ... breaks its rule"; "model (0 8253, 1 8254)"
+-- 21: "number or model too large" (02, L8); "model (0 8253, 1 8254)"
 abbrev pub modelAbove1 : List ℕ → Row
-modelAbove1 bytes = record { fault = faultAt 14 8; condition = 1 < numberAt bytes 8 }
+modelAbove1 bytes = record { fault = faultAt 21 8; condition = 1 < numberAt bytes 8 }
 
 -- 11: "operation count above 4,096"
 abbrev pub tooManyOperations : List ℕ → Row
 tooManyOperations bytes = record { fault = faultAt 11 12; condition = mostOperations < numberAt bytes 12 }
 
+-- the fields of the operation of an index
+abbrev pub codeAt : List ℕ → ℕ → ℕ
+codeAt bytes index = getD bytes (placeOf index) 0
+
+abbrev pub targetAt : List ℕ → ℕ → ℕ
+targetAt bytes index = getD bytes (placeOf index + 1) 0
+
+abbrev pub givenAt : List ℕ → ℕ → ℕ
+givenAt bytes index = numberAt bytes (placeOf index + 2)
+
 -- 12: "operation code not 1 to 8"; "12 now means not 1 to 9" (02, L1)
 abbrev pub unknownCode : List ℕ → ℕ → Row
-unknownCode bytes place = record { fault = faultAt 12 place; condition = (1 ≤ getD bytes place 0) × (getD bytes place 0 ≤ 9) → ⊥ }
+unknownCode bytes index =
+    record { fault = faultIn index 12 (placeOf index); condition = (1 ≤ codeAt bytes index) × (codeAt bytes index ≤ 9) → ⊥ }
 
 -- "Target 0 for 6, 7, 8."; "Trace code 9, target 0" (02, L1)
 abbrev pub TargetRule : ℕ → ℕ → Type 0
 TargetRule code target = (code ≡ 6) ⊎ ((code ≡ 7) ⊎ ((code ≡ 8) ⊎ (code ≡ 9))) → target ≡ 0
 
--- 14: "a trace's ... target ... breaks its rule"
+-- 19: "target not 0 where it must be" (02, L8)
 abbrev pub targetNotZero : List ℕ → ℕ → Row
-targetNotZero bytes place = record { fault = faultAt 14 (place + 1); condition = TargetRule (getD bytes place 0) (getD bytes (place + 1) 0) → ⊥ }
+targetNotZero bytes index =
+    record { fault = faultIn index 19 (placeOf index + 1); condition = TargetRule (codeAt bytes index) (targetAt bytes index) → ⊥ }
 
--- "Number 0 for 2, 5, 8; at most 255 for 1; at most 1 for 3."
-abbrev pub NumberRule : ℕ → ℕ → Type 0
-NumberRule code number = ((code ≡ 2) ⊎ ((code ≡ 5) ⊎ (code ≡ 8)) → number ≡ 0) × (code ≡ 1 → number ≤ 255) × (code ≡ 3 → number ≤ 1)
+-- "Number 0 for 2, 5, 8"
+abbrev pub ZeroRule : ℕ → ℕ → Type 0
+ZeroRule code number = (code ≡ 2) ⊎ ((code ≡ 5) ⊎ (code ≡ 8)) → number ≡ 0
 
--- 14: "a trace's ... number breaks its rule"
-abbrev pub numberBreaksRule : List ℕ → ℕ → Row
-numberBreaksRule bytes place = record { fault = faultAt 14 (place + 2); condition = NumberRule (getD bytes place 0) (numberAt bytes (place + 2)) → ⊥ }
+-- 20: "number not 0 where it must be" (02, L8)
+abbrev pub numberNotZero : List ℕ → ℕ → Row
+numberNotZero bytes index =
+    record { fault = faultIn index 20 (placeOf index + 2); condition = ZeroRule (codeAt bytes index) (givenAt bytes index) → ⊥ }
+
+-- "at most 255 for 1; at most 1 for 3."
+abbrev pub SizeRule : ℕ → ℕ → Type 0
+SizeRule code number = (code ≡ 1 → number ≤ 255) × (code ≡ 3 → number ≤ 1)
+
+-- 21: "number or model too large" (02, L8)
+abbrev pub numberTooLarge : List ℕ → ℕ → Row
+numberTooLarge bytes index =
+    record { fault = faultIn index 21 (placeOf index + 2); condition = SizeRule (codeAt bytes index) (givenAt bytes index) → ⊥ }
 
 -- 17: "a checkpoint count other than the operations divided by 256, rounded down" (02, L7)
 abbrev pub checkpointCount : List ℕ → ℕ → Row
@@ -73,13 +95,14 @@ headOrder bytes =
 
 -- "Of an operation all six bytes, then code, target, number."
 abbrev pub operationOrder : List ℕ → ℕ → List Row
-operationOrder bytes place =
-    endsBefore bytes (place + operationSize) ∷ unknownCode bytes place ∷ targetNotZero bytes place ∷ numberBreaksRule bytes place ∷ []
+operationOrder bytes index =
+    endsBefore bytes (placeOf index + operationSize) ∷ unknownCode bytes index ∷ targetNotZero bytes index ∷ numberNotZero bytes index
+    ∷ numberTooLarge bytes index ∷ []
 
 -- the operations from an index on, as many as are left
 abbrev pub operationsOrder : List ℕ → ℕ → ℕ → List Row
 operationsOrder bytes index zero = []
-operationsOrder bytes index (suc left) = operationOrder bytes (placeOf index) ++ operationsOrder bytes (suc index) left
+operationsOrder bytes index (suc left) = operationOrder bytes index ++ operationsOrder bytes (suc index) left
 
 -- a condition that counts only where something else holds
 abbrev pub only : Type 0 → Row → Row

@@ -1,6 +1,7 @@
 // The settings and the operation count: four numbers, each first there and then by its rule.
 use crate::Fault;
 use crate::MOST_OPERATIONS;
+use crate::Within;
 use channel::PitType;
 use numbers::number_at;
 use refusal::Refusal;
@@ -21,12 +22,16 @@ pub enum Judged {
 }
 
 fn refused(refusal: Refusal, place: usize) -> Judged
-    ensures { λ r. ⌜ r ≡ Judged.Refused (record { refusal = refusal; place = place }) ⌝ }
+    ensures { λ r. ⌜ r ≡ Judged.Refused (record { refusal = refusal; place = place; within = Within.Outside }) ⌝ }
 {
-    Judged::Refused(Fault { refusal, place })
+    Judged::Refused(Fault {
+        refusal,
+        place,
+        within: Within::Outside,
+    })
 }
 
-// Refusals 9, 10, 3, 14 and 11.
+// Refusals 9, 10, 3, 21 and 11.
 pub fn read_head(bytes: &[u8]) -> Judged
     ensures { λ r. ⌜ headJudged r ≡ readHead (now (bytes .entry)) ⌝ }
 {
@@ -48,7 +53,7 @@ pub fn read_head(bytes: &[u8]) -> Judged
     }
     let model = number_at(bytes, 8);
     if 1 < model {
-        return refused(Refusal::RuleBroken, 8);
+        return refused(Refusal::TooLarge, 8);
     }
     if bytes.len() < 16 {
         return refused(Refusal::TraceEnds, bytes.len());

@@ -36,9 +36,16 @@ pub const LONGEST_TRACE: usize = OPERATIONS_END
     + COUNT_SIZE
     + BOARD_SIZE * ((MOST_OPERATIONS / CHECKPOINT_EVERY) as usize);
 
+// Whether a fault stands inside an operation, all of whose bytes are there, and the index of that operation, counted from 0.
+pub enum Within {
+    Outside,
+    InOperation(u32),
+}
+
 // Why a trace is refused, and where: at the place of the field that breaks its rule, at the whole length where bytes are missing, at the first byte
 // too many.
 pub struct Fault {
     pub refusal: Refusal,
     pub place: usize,
+    pub within: Within,
 }

@@ -2,6 +2,7 @@
 use crate::Fault;
 use crate::HEAD_SIZE;
 use crate::OPERATION_SIZE;
+use crate::Within;
 use crate::rule::Rule;
 use crate::rule::broken_rule;
 use numbers::number_at;
@@ -69,28 +70,35 @@ pub fn place_of(index: u32) -> usize
     HEAD_SIZE + OPERATION_SIZE * (index as usize)
 }
 
-fn refused(refusal: Refusal, place: usize) -> OperationJudged
-    ensures { λ r. ⌜ r ≡ OperationJudged.Refused (record { refusal = refusal; place = place }) ⌝ }
+fn refused(within: Within, refusal: Refusal, place: usize) -> OperationJudged
+    ensures { λ r. ⌜ r ≡ OperationJudged.Refused (record { refusal = refusal; place = place; within = within }) ⌝ }
 {
-    OperationJudged::Refused(Fault { refusal, place })
+    OperationJudged::Refused(Fault {
+        refusal,
+        place,
+        within,
+    })
 }
 
-// The operation of an index, whatever the trace says of its number of operations. Refusals 9, 12 and 14.
+// The operation of an index, whatever the trace says of its number of operations. Refusals 9, 12, 19, 20 and 21. One that is not wholly there has no index to name: its
+// refusal is the trace's end.
 pub fn operation_at(bytes: &[u8], index: u32) -> OperationJudged
     ensures { λ r. ⌜ operationJudged r ≡ operationAt (now (bytes .entry)) index ⌝ }
 {
     let place = place_of(index);
     if bytes.len() < place + OPERATION_SIZE {
-        return refused(Refusal::TraceEnds, bytes.len());
+        return refused(Within::Outside, Refusal::TraceEnds, bytes.len());
     }
+    let here = Within::InOperation(index);
     let code = bytes[place];
     let target = bytes[place + 1];
     let number = number_at(bytes, place + 2);
     let rule = broken_rule(code, target, number);
     match rule {
-        Rule::Code => refused(Refusal::UnknownCode, place),
-        Rule::Target => refused(Refusal::RuleBroken, place + 1),
-        Rule::Number => refused(Refusal::RuleBroken, place + 2),
+        Rule::Code => refused(here, Refusal::UnknownCode, place),
+        Rule::Target => refused(here, Refusal::TargetNotZero, place + 1),
+        Rule::NumberNotZero => refused(here, Refusal::NumberNotZero, place + 2),
+        Rule::NumberTooLarge => refused(here, Refusal::TooLarge, place + 2),
         Rule::None => OperationJudged::Sound(operation_of(code, target, number)),
     }
 }

@@ -1,13 +1,14 @@
-// The rules of an operation's code, target and number.
+// The rules of an operation's code, target and number: which one is broken, whatever trace the operation stands in.
 ghost use mathlib.Core.Path.{_≡_};
-ghost use Rattle.trace.specs.Rule.{targetBroken, numberBroken, brokenRule};
+ghost use Rattle.trace.specs.Rule.{targetBroken, zeroBroken, sizeBroken, brokenRule};
 
 // The first rule that an operation breaks.
 pub enum Rule {
     None,
     Code,
     Target,
-    Number,
+    NumberNotZero,
+    NumberTooLarge,
 }
 
 fn target_broken(code: u8, target: u8) -> bool
@@ -19,15 +20,23 @@ fn target_broken(code: u8, target: u8) -> bool
     target != 0
 }
 
-fn number_broken(code: u8, number: u32) -> bool
-    ensures { λ r. ⌜ r ≡ numberBroken code number ⌝ }
+fn zero_broken(code: u8, number: u32) -> bool
+    ensures { λ r. ⌜ r ≡ zeroBroken code number ⌝ }
+{
+    match code {
+        2 => number != 0,
+        5 => number != 0,
+        8 => number != 0,
+        _ => false,
+    }
+}
+
+fn size_broken(code: u8, number: u32) -> bool
+    ensures { λ r. ⌜ r ≡ sizeBroken code number ⌝ }
 {
     match code {
         1 => 255 < number,
-        2 => number != 0,
         3 => 1 < number,
-        5 => number != 0,
-        8 => number != 0,
         _ => false,
     }
 }
@@ -44,8 +53,11 @@ pub fn broken_rule(code: u8, target: u8, number: u32) -> Rule
     if target_broken(code, target) {
         return Rule::Target;
     }
-    if number_broken(code, number) {
-        return Rule::Number;
+    if zero_broken(code, number) {
+        return Rule::NumberNotZero;
+    }
+    if size_broken(code, number) {
+        return Rule::NumberTooLarge;
     }
     Rule::None
 }

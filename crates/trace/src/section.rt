@@ -2,6 +2,7 @@
 use crate::CHECKPOINT_EVERY;
 use crate::COUNT_SIZE;
 use crate::Fault;
+use crate::Within;
 use crate::operation::place_of;
 use board_encoding::BOARD_SIZE;
 use numbers::number_at;
@@ -22,7 +23,11 @@ pub(crate) enum Found {
 fn fault(refusal: Refusal, place: usize) -> Found
     ensures { λ r. ⌜ faultJudged r ≡ refusedAt (refusalNumber refusal) place ⌝ }
 {
-    Found::Fault(Fault { refusal, place })
+    Found::Fault(Fault {
+        refusal,
+        place,
+        within: Within::Outside,
+    })
 }
 
 // How many checkpoints so many operations have.

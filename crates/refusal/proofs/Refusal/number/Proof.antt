@@ -9,7 +9,8 @@ number-spec =
     (tie.spec
     (λ c. search needs) (λ c. search needs) (λ c. search needs) (λ c. search needs) (λ c. search needs) (λ c. search needs)
     (λ c. search needs) (λ c. search needs) (λ c. search needs) (λ c. search needs) (λ c. search needs) (λ c. search needs)
-    (λ c. search needs) (λ c. search needs) (λ c. search needs) (λ c. search needs) (λ c. search needs)
+    (λ c. search needs) (λ c. search needs) (λ c. search needs) (λ c. search needs) (λ c. search needs) (λ c. search needs)
+    (λ c. search needs)
     (λ c. simp (c .enum-told .given .1))
     (λ c. simp (c .enum-told2 .given .1))
     (λ c. simp (c .enum-told3 .given .1))
@@ -26,4 +27,6 @@ number-spec =
     (λ c. simp (c .enum-told14 .given .1))
     (λ c. simp (c .enum-told15 .given .1))
     (λ c. simp (c .enum-told16 .given .1))
-    (λ c. simp (c .enum-told17 .given .1)))
+    (λ c. simp (c .enum-told17 .given .1))
+    (λ c. simp (c .enum-told18 .given .1))
+    (λ c. simp (c .enum-told19 .given .1)))
