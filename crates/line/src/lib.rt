@@ -85,11 +85,12 @@ pub fn fault_line(fault: Fault) -> Line
 {
     let mut bytes = [0u8; LINE_ROOM];
     let refusal = fault.refusal;
+    let within = fault.within;
     let mut place = text::put(&mut bytes, 0, b"trace refused ");
     place = text::put_decimal(&mut bytes, place, refusal.number() as u64);
     place = text::put(&mut bytes, place, b" at ");
     place = text::put_decimal(&mut bytes, place, fault.place as u64);
-    place = put_within(&mut bytes, place, fault.within);
+    place = put_within(&mut bytes, place, within);
     place = text::put(&mut bytes, place, b"\n");
     Line { bytes, len: place }
 }

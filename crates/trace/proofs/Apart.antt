@@ -13,10 +13,10 @@ use Rattle.trace.specs.Judgement.{Judgement, Faulted, refusedBy, sound}
 use Rattle.trace.specs.Answer.{faultOf, headJudged, operationJudged}
 
 abbrev pub faultFrom : Faulted → Fault
-faultFrom f = record { refusal = refusalNumbered (f .number); place = f .place }
+faultFrom f = record { refusal = refusalNumbered (f .number); place = f .place; within = f .within }
 
 pub fault-back : (f : Fault) → faultFrom (faultOf f) ≡ f
-fault-back f = λ i. record { refusal = numbered-back (f .refusal) i; place = f .place }
+fault-back f = λ i. record { refusal = numbered-back (f .refusal) i; place = f .place; within = f .within }
 
 abbrev judgedOf : Judgement Head → Judged
 judgedOf (refusedBy f) = judged.Refused (faultFrom f)

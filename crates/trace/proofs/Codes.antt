@@ -7,7 +7,7 @@ use lib.Dec.{ltb}
 use borrow.Author.Tests.{ne-eqb, ltb-false}
 use Rattle.trace.specs.declared.operation.Operation.the-variants.{WorkOff}
 use Rattle.trace.specs.declared.rule.Rule.{Rule}
-use Rattle.trace.specs.declared.rule.Rule.the-variants.{None, Code, Target, Number}
+use Rattle.trace.specs.declared.rule.Rule.the-variants.{None, Code, Target, NumberNotZero, NumberTooLarge}
 use Rattle.trace.specs.Rule.{brokenRule}
 use Rattle.trace.specs.Operation.{operationOf}
 use Rattle.trace.specs.Inner.{NoneOfFour}
@@ -22,14 +22,15 @@ abbrev Kept : Rule → Type 0
 Kept None = Unit
 Kept Code = ⊥
 Kept Target = ⊥
-Kept Number = ⊥
+Kept NumberNotZero = ⊥
+Kept NumberTooLarge = ⊥
 
 broken-not : (broken : Rule) → (Kept broken → ⊥) → broken ≡ None → ⊥
 broken-not broken is e = is (subst Kept (sym e) tt)
 
 -- a byte that a write may have
-write-kept : (number : ℕ) (large : Bool) → ltb 255 number ≡ large → cond large Number None ≡ None → number < 256
-write-kept number true e is = absurd (broken-not Number (λ none. none) is)
+write-kept : (number : ℕ) (large : Bool) → ltb 255 number ≡ large → cond large NumberTooLarge None ≡ None → number < 256
+write-kept number true e is = absurd (broken-not NumberTooLarge (λ none. none) is)
 write-kept number false e is = let h : number ≤ 255 = ltb-false 255 number e in omega arith
 
 -- an operation that breaks no rule has a code, and a byte where it writes one

@@ -17,9 +17,9 @@ pub record Decided {A : Type 0} (j : Judgement A) (rows : List Row) (f : Faulted
 pub accepts : {A : Type 0} (value : A) (f : Faulted) → Decided (sound value) [] f
 accepts value f = record { exactly = (not-refused value f, λ none. absurd none) }
 
-abbrev faultIn : {A : Type 0} → Judgement A → Faulted
-faultIn (refusedBy f) = f
-faultIn (sound value) = faultAt 0 0
+abbrev faultBy : {A : Type 0} → Judgement A → Faulted
+faultBy (refusedBy f) = f
+faultBy (sound value) = faultAt 0 0
 
 -- a test that holds exactly when the row's condition does; where it fails, the rows after it decide
 pub tested : {A : Type 0} (test : Bool) (r : Row) (rest : List Row) (after : Judgement A) (f : Faulted) → (test ≡ true) ↔ r .condition
@@ -27,7 +27,7 @@ pub tested : {A : Type 0} (test : Bool) (r : Row) (rest : List Row) (after : Jud
 tested true r rest after f means others =
     let holds = means .0 refl in
     record {
-      exactly = (λ e. inl (sym (ap faultIn e), holds), ⊎-elim (λ first. ap refusedBy (sym (first .0))) (λ later. absurd (later .0 holds)));
+      exactly = (λ e. inl (sym (ap faultBy e), holds), ⊎-elim (λ first. ap refusedBy (sym (first .0))) (λ later. absurd (later .0 holds)));
     }
 tested false r rest after f means others =
     let fails : r .condition → ⊥ = λ holds. false≢true (means .1 holds) in

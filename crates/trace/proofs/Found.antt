@@ -11,8 +11,8 @@ use Rattle.numbers.specs.Number.{numberAt}
 use Rattle.trace.specs.declared.operation.Operation.{Operation}
 use Rattle.trace.specs.declared.operation.Operation.the-variants.{Reset}
 use Rattle.trace.specs.declared.rule.Rule.{Rule}
-use Rattle.trace.specs.declared.rule.Rule.the-variants.{None, Code, Target, Number}
-use Rattle.trace.specs.Judgement.{Judgement, refusedBy, sound, faultAt}
+use Rattle.trace.specs.declared.rule.Rule.the-variants.{None, Code, Target, NumberNotZero, NumberTooLarge}
+use Rattle.trace.specs.Judgement.{Judgement, refusedBy, sound, faultAt, faultIn}
 use Rattle.trace.specs.Rule.{brokenRule}
 use Rattle.trace.specs.Operation.{operationOf, judgedBy, sixBytes, fitted, unjudged, placeOf, operationAt, operationIn}
 use Rattle.trace.proofs.Codes.{kept}
@@ -23,11 +23,12 @@ valueOr other (refusedBy f) = other
 valueOr other (sound value) = value
 
 -- what is judged sound broke no rule, and is what was judged
-ruled-sound : {A : Type 0} (rule : Rule) (place : ℕ) (value found : A) → judgedBy rule place value ≡ sound found → (rule ≡ None) × (value ≡ found)
-ruled-sound None place value found e = (refl, ap (valueOr found) e)
-ruled-sound Code place value found e = absurd (not-refused found (faultAt 12 place) (sym e))
-ruled-sound Target place value found e = absurd (not-refused found (faultAt 14 (place + 1)) (sym e))
-ruled-sound Number place value found e = absurd (not-refused found (faultAt 14 (place + 2)) (sym e))
+ruled-sound : {A : Type 0} (rule : Rule) (index : ℕ) (value found : A) → judgedBy rule index value ≡ sound found → (rule ≡ None) × (value ≡ found)
+ruled-sound None index value found e = (refl, ap (valueOr found) e)
+ruled-sound Code index value found e = absurd (not-refused found (faultIn index 12 (placeOf index)) (sym e))
+ruled-sound Target index value found e = absurd (not-refused found (faultIn index 19 (placeOf index + 1)) (sym e))
+ruled-sound NumberNotZero index value found e = absurd (not-refused found (faultIn index 20 (placeOf index + 2)) (sym e))
+ruled-sound NumberTooLarge index value found e = absurd (not-refused found (faultIn index 21 (placeOf index + 2)) (sym e))
 
 fits-itself : (code number : ℕ) (one : Bool) → eqb code 1 ≡ one → (code ≡ 1 → number < 256) → cond one (number % 256) number ≡ number
 fits-itself code number true is few = let h = few (eqb-true code 1 is) in omega (arith, h)
@@ -54,8 +55,8 @@ module _ (bytes : List ℕ) (index : ℕ) (o : Operation) (is : operationAt byte
   there : placeOf index + 6 ≤ length bytes → unjudged bytes (placeOf index) ≡ o
   unfolding operationAt
   there h =
-      let six : sixBytes bytes (placeOf index) ≡ sound o = sym (simp (le-ltb (length bytes) (placeOf index + 6) h)) ∙ is in
-      let both = ruled-sound (brokenRule code target number) (placeOf index) (operationOf code target number) o six in
+      let six : sixBytes bytes index (placeOf index) ≡ sound o = sym (simp (le-ltb (length bytes) (placeOf index + 6) h)) ∙ is in
+      let both = ruled-sound (brokenRule code target number) index (operationOf code target number) o six in
       ap (operationOf code target) (fitted-kept code target number (both .0)) ∙ both .1
 
   by-length : (short : Bool) → ltb (length bytes) (placeOf index + 6) ≡ short → cond short Reset (unjudged bytes (placeOf index)) ≡ o

@@ -39,7 +39,7 @@ operation-long : (bytes : List ℕ) (i : ℕ) → OfSound (λ (o : Operation). p
 unfolding operationAt
 operation-long bytes i =
     pick-knowing (OfSound (λ (o : Operation). placeOf (suc i) ≤ length bytes)) (ltb (length bytes) (placeOf i + 6)) _ _ (λ short. tt)
-    (λ there. always (sixBytes bytes (placeOf i)) (omega (arith, ltb-false (length bytes) (placeOf i + 6) there)))
+    (λ there. always (sixBytes bytes i (placeOf i)) (omega (arith, ltb-false (length bytes) (placeOf i + 6) there)))
 
 abbrev Stand : List ℕ → ℕ → ℕ → List Operation → Type 0
 Stand bytes i n os = (length os ≡ n) × (placeOf (i + n) ≤ length bytes)

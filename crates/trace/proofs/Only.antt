@@ -15,7 +15,7 @@ use Rattle.numbers.specs.Flags.{flagNumber}
 use Rattle.numbers.specs.Little.{fourBytes}
 use Rattle.channel.proofs.Pick.{pick-knowing}
 use Rattle.trace.specs.declared.rule.Rule.{Rule}
-use Rattle.trace.specs.declared.rule.Rule.the-variants.{None, Code, Target, Number}
+use Rattle.trace.specs.declared.rule.Rule.the-variants.{None, Code, Target, NumberNotZero, NumberTooLarge}
 use Rattle.trace.specs.declared.head.Head.{Head}
 use Rattle.trace.specs.declared.operation.Operation.{Operation}
 use Rattle.trace.specs.declared.operation.Operation.the-variants.{WritePort, ReadPort, SetChannelGate, Counts, LoadCycle, CatchUp, Run, Reset, WorkOff}
@@ -24,16 +24,16 @@ use Rattle.numbers.specs.Number.{numberAt}
 use Rattle.channel.specs.Models.{modelNumber}
 use Rattle.channel.proofs.Models.{model-number-back}
 use Rattle.trace.specs.Head.{readHead}
-use Rattle.trace.specs.Rule.{codeBroken, targetBroken, numberBroken}
+use Rattle.trace.specs.Rule.{codeBroken, targetBroken, zeroBroken, sizeBroken}
 use Rattle.trace.specs.Operation.{operationOf, judgedBy, placeOf, operationAt}
 use Rattle.board_encoding.specs.Places.{boardSize}
 use Rattle.trace.specs.Sizes.{checkpointsOf}
 use Rattle.trace.specs.Section.{sectionEnd, sectionThree}
 use Rattle.trace.specs.Trace.{Trace, before, operationsFrom, traceOf, afterHead, readTrace}
-use Rattle.trace.specs.Refusals.{TargetRule, NumberRule}
+use Rattle.trace.specs.Refusals.{TargetRule, ZeroRule, SizeRule}
 use Rattle.trace.specs.Bytes.{AllBytes, six, operationBytes, operationsBytes, traceBytes, behind, SectionForm, missing, counted, Holds, AllHold, Writable}
 use Rattle.trace.proofs.Values.{OfSound, through}
-use Rattle.trace.proofs.Refusals.{code-kept, target-kept, number-kept}
+use Rattle.trace.proofs.Refusals.{code-kept, target-kept, zero-kept, size-kept}
 
 byte-at : (bytes : List ℕ) → AllBytes bytes → (p : ℕ) → getD bytes p 0 < 256
 byte-at [] all p = omega arith
@@ -86,20 +86,20 @@ flag-back (suc zero) h = refl
 flag-back (suc (suc number)) h = absurd (omega arith)
 
 -- the operation that six bytes are by the rules has these six bytes
-by-rules : (code target number : ℕ) → (1 ≤ code) × (code ≤ 9) → TargetRule code target → NumberRule code number → target < 256 → number < 4294967296
+by-rules : (code target number : ℕ) → (1 ≤ code) × (code ≤ 9) → TargetRule code target → ZeroRule code number → SizeRule code number → target < 256 → number < 4294967296
     → Holds (operationOf code target number) × (operationBytes (operationOf code target number) ≡ six code target number)
-by-rules code target number known t n byte fits =
+by-rules code target number known t z s byte fits =
     let P : Operation → Type 0 = λ o. Holds o × (operationBytes o ≡ six code target number) in
     let is = eqb-true code in
     let apart = eqb-false code in
-    pick-knowing P (eqb code 1) _ _ (λ e. ((byte, omega (arith, n .1 (is 1 e))), rw (is 1 e) refl)) (λ not-1.
-    pick-knowing P (eqb code 2) _ _ (λ e. (byte, rw (n .0 (inl (is 2 e))) (rw (is 2 e) refl))) (λ not-2.
-    pick-knowing P (eqb code 3) _ _ (λ e. (byte, rw (flag-back number (n .2 (is 3 e))) (rw (is 3 e) refl))) (λ not-3.
+    pick-knowing P (eqb code 1) _ _ (λ e. ((byte, omega (arith, s .0 (is 1 e))), rw (is 1 e) refl)) (λ not-1.
+    pick-knowing P (eqb code 2) _ _ (λ e. (byte, rw (z (inl (is 2 e))) (rw (is 2 e) refl))) (λ not-2.
+    pick-knowing P (eqb code 3) _ _ (λ e. (byte, rw (flag-back number (s .1 (is 3 e))) (rw (is 3 e) refl))) (λ not-3.
     pick-knowing P (eqb code 4) _ _ (λ e. ((byte, fits), rw (is 4 e) refl)) (λ not-4.
-    pick-knowing P (eqb code 5) _ _ (λ e. (byte, rw (n .0 (inr (inl (is 5 e)))) (rw (is 5 e) refl))) (λ not-5.
+    pick-knowing P (eqb code 5) _ _ (λ e. (byte, rw (z (inr (inl (is 5 e)))) (rw (is 5 e) refl))) (λ not-5.
     pick-knowing P (eqb code 6) _ _ (λ e. (fits, rw (t (inl (is 6 e))) (rw (is 6 e) refl))) (λ not-6.
     pick-knowing P (eqb code 7) _ _ (λ e. (fits, rw (t (inr (inl (is 7 e)))) (rw (is 7 e) refl))) (λ not-7.
-    pick-knowing P (eqb code 8) _ _ (λ e. (tt, rw (t (inr (inr (inl (is 8 e))))) (rw (n .0 (inr (inr (is 8 e)))) (rw (is 8 e) refl)))) (λ not-8.
+    pick-knowing P (eqb code 8) _ _ (λ e. (tt, rw (t (inr (inr (inl (is 8 e))))) (rw (z (inr (inr (is 8 e)))) (rw (is 8 e) refl)))) (λ not-8.
     let above : 4 < code = omega (arith, known .0, apart 1 not-1, apart 2 not-2, apart 3 not-3, apart 4 not-4) in
     let last : code ≡ 9 = omega (arith, known .1, apart 5 not-5, apart 6 not-6, apart 7 not-7, apart 8 not-8) in
     (fits, rw (t (inr (inr (inr last)))) (rw last refl))))))))))
@@ -115,15 +115,16 @@ operation-form bytes all i =
     let code = getD bytes p 0 in
     let target = getD bytes (p + 1) 0 in
     let number = numberAt bytes (p + 2) in
-    let P : Rule → Type 0 = λ r. OfSound (Written bytes i) (judgedBy r p (operationOf code target number)) in
+    let P : Rule → Type 0 = λ r. OfSound (Written bytes i) (judgedBy r i (operationOf code target number)) in
     pick-knowing (OfSound (Written bytes i)) (ltb (length bytes) (p + 6)) _ _ (λ short. tt) (λ long.
     pick-knowing P (codeBroken code) Code _ (λ broken. tt) (λ c.
     pick-knowing P (targetBroken code target) Target _ (λ broken. tt) (λ t.
-    pick-knowing P (numberBroken code number) Number None (λ broken. tt) (λ n.
+    pick-knowing P (zeroBroken code number) NumberNotZero _ (λ broken. tt) (λ z.
+    pick-knowing P (sizeBroken code number) NumberTooLarge None (λ broken. tt) (λ s.
     let known = code-kept code .0 c in
     let written =
-    by-rules code target number known (target-kept code target (known .1) .0 t) (number-kept code number .0 n) (byte-at bytes all (p + 1)) (number-fits bytes all (p + 2)) in
-    (written .0, rw (written .1) (six-form bytes all p (placeOf (suc i)) (omega arith) (omega (arith, ltb-false (length bytes) (p + 6) long))))))))
+    by-rules code target number known (target-kept code target (known .1) .0 t) (zero-kept code number .0 z) (size-kept code number .0 s) (byte-at bytes all (p + 1)) (number-fits bytes all (p + 2)) in
+    (written .0, rw (written .1) (six-form bytes all p (placeOf (suc i)) (omega arith) (omega (arith, ltb-false (length bytes) (p + 6) long)))))))))
 
 -- the operations that were read from an index on, as many as were asked for, have the bytes from there up to what is behind them
 abbrev AllWritten : List ℕ → ℕ → ℕ → List Operation → Type 0

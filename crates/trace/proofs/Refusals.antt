@@ -17,12 +17,12 @@ use Rattle.trace.specs.declared.head.Head.{Head}
 use Rattle.trace.specs.Judgement.{Judgement, Faulted, refusedBy, sound, present, andThen}
 use Rattle.numbers.specs.Number.{numberAt}
 use Rattle.trace.specs.Head.{headOf, readHead}
-use Rattle.trace.specs.Rule.{codeBroken, targetBroken, numberBroken}
+use Rattle.trace.specs.Rule.{codeBroken, targetBroken, zeroBroken, sizeBroken}
 use Rattle.trace.specs.Operation.{placeOf, operationOf, operationAt, judgedBy}
 use Rattle.trace.specs.Sizes.{checkpointsOf}
 use Rattle.trace.specs.Section.{sectionEnd, sectionThree}
 use Rattle.trace.specs.Trace.{before, operationsFrom, traceOf, afterHead, readTrace}
-use Rattle.trace.specs.Refusals.{Row, endsBefore, settingsCount, divisorZero, modelAbove1, tooManyOperations, unknownCode, TargetRule, targetNotZero, NumberRule, numberBreaksRule, checkpointCount, bytesAfter, operationOrder, operationsOrder, sectionOrder, order, FirstAt}
+use Rattle.trace.specs.Refusals.{Row, endsBefore, settingsCount, divisorZero, modelAbove1, tooManyOperations, unknownCode, TargetRule, targetNotZero, ZeroRule, numberNotZero, SizeRule, numberTooLarge, checkpointCount, bytesAfter, operationOrder, operationsOrder, sectionOrder, order, FirstAt}
 use Rattle.trace.proofs.Parts.{then-decided, only-decided}
 use Rattle.trace.proofs.Deciding.{Decided, accepts, tested, made-of, one-of, at-most, is, free, neither, guarded, breaks}
 
@@ -49,37 +49,36 @@ target-kept code target h =
       λ kept. by-code .1 (λ low. tt, λ high. kept (last-four code (omega arith) h)),
     )
 
-pub number-kept : (code number : ℕ) → (numberBroken code number ≡ false) ↔ NumberRule code number
-number-kept code number =
+pub zero-kept : (code number : ℕ) → (zeroBroken code number ≡ false) ↔ ZeroRule code number
+zero-kept code number =
     let none = one-of (eqb code 2) (eqb code 5 || eqb code 8) (equal code 2) (one-of (eqb code 5) (eqb code 8) (equal code 5) (equal code 8)) in
+    let by-code = guarded (eqb code 2 || (eqb code 5 || eqb code 8)) (not (eqb number 0)) false none (is number 0) free in
+    (λ e. by-code .0 e .0, λ kept. by-code .1 (kept, λ other. tt))
+
+pub size-kept : (code number : ℕ) → (sizeBroken code number ≡ false) ↔ SizeRule code number
+size-kept code number =
     let by-code =
-    guarded (eqb code 2 || (eqb code 5 || eqb code 8)) (not (eqb number 0)) _ none (is number 0)
-    (guarded (eqb code 1) (ltb 255 number) _ (equal code 1) (at-most 255 number)
-    (guarded (eqb code 3) (ltb 1 number) false (equal code 3) (at-most 1 number) free)) in
-    let apart : (k : ℕ) → (k ≡ 2 → ⊥) → (k ≡ 5 → ⊥) → (k ≡ 8 → ⊥) → code ≡ k → (code ≡ 2) ⊎ ((code ≡ 5) ⊎ (code ≡ 8)) → ⊥
-    = λ k two five eight e. ⊎-elim (λ q. two (sym e ∙ q)) (⊎-elim (λ q. five (sym e ∙ q)) (λ q. eight (sym e ∙ q))) in (
-      λ e. let kept = by-code .0 e in (
-        kept .0,
-        λ one. kept .1 (apart 1 (omega arith) (omega arith) (omega arith) one) .0 one,
-        λ three. kept .1 (apart 3 (omega arith) (omega arith) (omega arith) three) .1 (λ one. absurd (omega arith)) .0 three,
-      ),
-      λ kept. by-code .1 (kept .0, λ other. (kept .1, λ not-one. (kept .2, λ not-three. tt))),
+    guarded (eqb code 1) (ltb 255 number) _ (equal code 1) (at-most 255 number)
+    (guarded (eqb code 3) (ltb 1 number) false (equal code 3) (at-most 1 number) free) in (
+      λ e. let kept = by-code .0 e in (kept .0, λ three. kept .1 (λ one. absurd (omega arith)) .0 three),
+      λ kept. by-code .1 (kept .0, λ not-one. (kept .1, λ not-three. tt)),
     )
 
 operation-decided : (bytes : List ℕ) (i : ℕ) (rest : Judgement (List Operation)) (rows : List Row) (f : Faulted) → Decided rest rows f
-    → Decided (andThen (operationAt bytes i) (before rest)) (operationOrder bytes (placeOf i) ++ rows) f
+    → Decided (andThen (operationAt bytes i) (before rest)) (operationOrder bytes i ++ rows) f
 unfolding operationAt
 operation-decided bytes i rest rows f d =
     let p = placeOf i in
     let code = getD bytes p 0 in
     let target = getD bytes (p + 1) 0 in
     let given = numberAt bytes (p + 2) in
-    simp (of-pick (λ (j : Judgement Operation). andThen j (before rest)), of-pick (λ (r : Rule). andThen (judgedBy r p (operationOf code target given)) (before rest)))
+    simp (of-pick (λ (j : Judgement Operation). andThen j (before rest)), of-pick (λ (r : Rule). andThen (judgedBy r i (operationOf code target given)) (before rest)))
     (tested (ltb (length bytes) (p + 6)) (endsBefore bytes (p + 6)) _ _ f (below (length bytes) (p + 6)) (λ there.
-    tested (codeBroken code) (unknownCode bytes p) _ _ f (breaks (codeBroken code) (code-kept code)) (λ known.
-    tested (targetBroken code target) (targetNotZero bytes p) _ _ f (breaks (targetBroken code target) (target-kept code target (code-kept code .0 known .1))) (λ t.
-    tested (numberBroken code given) (numberBreaksRule bytes p) _ _ f (breaks (numberBroken code given) (number-kept code given)) (λ n.
-    made-of rest (λ os. operationOf code target given ∷ os) rows f d)))))
+    tested (codeBroken code) (unknownCode bytes i) _ _ f (breaks (codeBroken code) (code-kept code)) (λ known.
+    tested (targetBroken code target) (targetNotZero bytes i) _ _ f (breaks (targetBroken code target) (target-kept code target (code-kept code .0 known .1))) (λ t.
+    tested (zeroBroken code given) (numberNotZero bytes i) _ _ f (breaks (zeroBroken code given) (zero-kept code given)) (λ z.
+    tested (sizeBroken code given) (numberTooLarge bytes i) _ _ f (breaks (sizeBroken code given) (size-kept code given)) (λ s.
+    made-of rest (λ os. operationOf code target given ∷ os) rows f d))))))
 
 operations-decided : (bytes : List ℕ) (i n : ℕ) (f : Faulted) → Decided (operationsFrom bytes i n) (operationsOrder bytes i n) f
 operations-decided bytes i zero f = accepts [] f

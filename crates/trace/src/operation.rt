@@ -70,13 +70,13 @@ pub fn place_of(index: u32) -> usize
     HEAD_SIZE + OPERATION_SIZE * (index as usize)
 }
 
-fn refused(within: Within, refusal: Refusal, place: usize) -> OperationJudged
-    ensures { λ r. ⌜ r ≡ OperationJudged.Refused (record { refusal = refusal; place = place; within = within }) ⌝ }
+fn inside(index: u32, refusal: Refusal, place: usize) -> OperationJudged
+    ensures { λ r. ⌜ r ≡ OperationJudged.Refused (record { refusal = refusal; place = place; within = Within.InOperation index }) ⌝ }
 {
     OperationJudged::Refused(Fault {
         refusal,
         place,
-        within,
+        within: Within::InOperation(index),
     })
 }
 
@@ -87,18 +87,21 @@ pub fn operation_at(bytes: &[u8], index: u32) -> OperationJudged
 {
     let place = place_of(index);
     if bytes.len() < place + OPERATION_SIZE {
-        return refused(Within::Outside, Refusal::TraceEnds, bytes.len());
+        return OperationJudged::Refused(Fault {
+            refusal: Refusal::TraceEnds,
+            place: bytes.len(),
+            within: Within::Outside,
+        });
     }
-    let here = Within::InOperation(index);
     let code = bytes[place];
     let target = bytes[place + 1];
     let number = number_at(bytes, place + 2);
     let rule = broken_rule(code, target, number);
     match rule {
-        Rule::Code => refused(here, Refusal::UnknownCode, place),
-        Rule::Target => refused(here, Refusal::TargetNotZero, place + 1),
-        Rule::NumberNotZero => refused(here, Refusal::NumberNotZero, place + 2),
-        Rule::NumberTooLarge => refused(here, Refusal::TooLarge, place + 2),
+        Rule::Code => inside(index, Refusal::UnknownCode, place),
+        Rule::Target => inside(index, Refusal::TargetNotZero, place + 1),
+        Rule::NumberNotZero => inside(index, Refusal::NumberNotZero, place + 2),
+        Rule::NumberTooLarge => inside(index, Refusal::TooLarge, place + 2),
         Rule::None => OperationJudged::Sound(operation_of(code, target, number)),
     }
 }

@@ -16,7 +16,7 @@ abbrev from-12 : List ℕ → Judgement Head
 from-12 bytes = field bytes 12 (λ operations. ltb 4096 operations) 11 (sound (headOf bytes))
 
 abbrev from-8 : List ℕ → Judgement Head
-from-8 bytes = field bytes 8 (λ model. ltb 1 model) 14 (from-12 bytes)
+from-8 bytes = field bytes 8 (λ model. ltb 1 model) 21 (from-12 bytes)
 
 abbrev from-4 : List ℕ → Judgement Head
 from-4 bytes = field bytes 4 (λ divisor. eqb divisor 0) 3 (from-8 bytes)
