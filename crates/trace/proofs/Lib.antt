@@ -12,3 +12,4 @@ pub mod Apart
 pub mod Sound
 pub mod Only
 pub mod Long
+pub mod Named

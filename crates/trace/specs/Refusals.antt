@@ -6,6 +6,8 @@ use mathlib.Core.Logic.{_⊎_}
 use mathlib.Core.Path.{_≡_}
 use lib.ListN.{length, getD}
 use Rattle.numbers.specs.Number.{numberAt}
+use Rattle.trace.specs.declared.Within.{Within}
+use Rattle.trace.specs.declared.Within.the-variants.{Outside, InOperation}
 use Rattle.trace.specs.Judgement.{Faulted, faultAt, faultIn}
 use Rattle.trace.specs.Sizes.{operationSize, mostOperations, checkpointsOf, countSize}
 use Rattle.trace.specs.Operation.{placeOf}
@@ -123,3 +125,10 @@ order bytes = headOrder bytes ++ operationsOrder bytes 0 (numberAt bytes 12) ++ 
 abbrev pub FirstAt : List Row → Faulted → Type 0
 FirstAt [] f = ⊥
 FirstAt (r ∷ rest) f = ((f ≡ r .fault) × r .condition) ⊎ ((r .condition → ⊥) × FirstAt rest f)
+
+-- an index that is named (02, L8) is one of so many operations, all its bytes are there, and the place is inside it
+abbrev pub NamedIn : List ℕ → ℕ → ℕ → Within → Type 0
+NamedIn bytes operations place Outside = Unit
+NamedIn bytes operations place (InOperation index) =
+    (index < operations) × (operations ≤ mostOperations) × (placeOf index ≤ place) × (place < placeOf index + operationSize)
+    × (placeOf index + operationSize ≤ length bytes)
