@@ -63,7 +63,11 @@ pub fn mark_into(trace: &[u8], out: &mut [u8]) -> Replayed
 {
     let judged = trace::judge(trace);
     match judged {
-        Judged::Refused(fault) => Replayed::Refused(fault),
+        Judged::Refused(fault) => {
+            let refusal = fault.refusal;
+            let within = fault.within;
+            Replayed::Refused(refusal, within)
+        }
         Judged::Sound(head) => {
             let operations = head.operations;
             if out.len() < checkpoint_place(operations, checkpoints_of(operations)) {

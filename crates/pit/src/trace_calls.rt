@@ -3,13 +3,13 @@ use crate::SHORT_ANSWER;
 use crate::SHORT_OUT;
 use crate::answering;
 use in_bytes::BOARD_ANSWER_SIZE;
+use refusal::Refusal;
 use runner::lending::Replayed;
-use trace::Fault;
 use trace::Within;
 ghost use Prim.Native.Nat.{_<_};
 ghost use mathlib.Core.Path.{_≡_};
 ghost use Rattle.refusal.specs.Reply.{numberIn};
-ghost use Rattle.trace.specs.Answer.{faultOf};
+ghost use Rattle.refusal.specs.Refusal.{refusalNumber};
 ghost use Rattle.runner.specs.Lent.{statusOf, replyIn, replayInto, answersInto};
 ghost use Rattle.checkpoint.specs.Check.{checkInto};
 ghost use Rattle.checkpoint.specs.From.{replayFromInto};
@@ -17,13 +17,12 @@ ghost use Rattle.checkpoint.specs.Mark.{markInto};
 ghost use Rattle.pit.specs.Trace.{replyAfter, replayCalled, replayCall};
 
 // The refusal's number; inside an operation, 256 times the index more, counted from 1.
-fn status_of(fault: Fault) -> u32
-    requires { ⌜ statusOf (faultOf fault) < 4294967296 ⌝ }
-    ensures { λ r. ⌜ r ≡ statusOf (faultOf fault) ⌝ }
+fn status_of(refusal: Refusal, within: Within) -> u32
+    requires { ⌜ statusOf (refusalNumber refusal) within < 4294967296 ⌝ }
+    ensures { λ r. ⌜ r ≡ statusOf (refusalNumber refusal) within ⌝ }
 {
-    let refusal = fault.refusal;
     let number = refusal.number() as u32;
-    match fault.within {
+    match within {
         Within::Outside => number,
         Within::InOperation(index) => number + 256 * (index + 1),
     }
@@ -40,7 +39,7 @@ fn settle(replayed: Replayed, answer: &mut [u8]) -> u32
             encoding::put_front(answer, &answered);
             0
         }
-        Replayed::Refused(fault) => status_of(fault),
+        Replayed::Refused(refusal, within) => status_of(refusal, within),
         Replayed::Short => SHORT_OUT,
     }
 }

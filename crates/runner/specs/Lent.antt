@@ -5,10 +5,10 @@ use mathlib.Core.List.{List, _++_}
 use lib.Dec.{ltb}
 use lib.ListN.{length, drop}
 use Rattle.refusal.specs.Reply.{Reply, refused, accepted}
+use Rattle.refusal.specs.Refusal.{refusalNumber}
 use Rattle.trace.specs.declared.Within.{Within}
 use Rattle.trace.specs.declared.Within.the-variants.{Outside, InOperation}
-use Rattle.trace.specs.Judgement.{Judgement, Faulted, refusedBy, sound}
-use Rattle.trace.specs.Answer.{faultOf}
+use Rattle.trace.specs.Judgement.{Judgement, refusedBy, sound}
 use Rattle.trace.specs.Trace.{Trace, readTrace}
 use Rattle.board.specs.Making.{fresh}
 use Rattle.line.specs.Line.{lineRoom}
@@ -46,12 +46,12 @@ abbrev pub indexCounted : Within → ℕ
 indexCounted Outside = 0
 indexCounted (InOperation index) = suc index
 
-abbrev pub statusOf : Faulted → ℕ
-statusOf f = f .number + 256 * indexCounted (f .within)
+abbrev pub statusOf : ℕ → Within → ℕ
+statusOf number within = number + 256 * indexCounted within
 
 -- "the trace's refusal, 105"; "16 for each operation"
 abbrev pub answersJudged : Judgement Trace → List ℕ → Replaying
-answersJudged (refusedBy f) bytes = record { reply = refused (statusOf f); bytes = bytes }
+answersJudged (refusedBy f) bytes = record { reply = refused (statusOf (f .number) (f .within)); bytes = bytes }
 answersJudged (sound t) bytes = inRoom (roomOf Answers * length (t .operations)) (answersOf t) bytes
 
 unfoldable pub answersInto : List ℕ → List ℕ → Replaying
@@ -60,7 +60,7 @@ answersInto trace bytes = answersJudged (readTrace trace) bytes
 -- what the code answers, with the lent bytes at its end
 abbrev pub replyIn : Replayed → Reply ℕ
 replyIn (Written n) = accepted n
-replyIn (Refused fault) = refused (statusOf (faultOf fault))
+replyIn (Refused refusal within) = refused (statusOf (refusalNumber refusal) within)
 replyIn Short = refused 105
 
 abbrev pub replayed : Replayed → List ℕ → Replaying

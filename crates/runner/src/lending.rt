@@ -7,16 +7,18 @@ use crate::tell;
 use board::Board;
 use line::LINE_ROOM;
 use line::sentence::Sentence;
-use trace::Fault;
+use refusal::Refusal;
+use trace::Within;
 use trace::head::Judged;
 ghost use mathlib.Core.Path.{_≡_};
 ghost use Rattle.runner.specs.Lent.{replayed, replayInto, answersInto};
 
-// What comes of a replay into lent bytes: how many bytes were written to their front, the trace's fault, or too few bytes lent. But for the first
+// What comes of a replay into lent bytes: how many bytes were written to their front, the trace's refusal and the operation that it
+// names, or too few bytes lent. But for the first
 // no lent byte changes.
 pub enum Replayed {
     Written(usize),
-    Refused(Fault),
+    Refused(Refusal, Within),
     Short,
 }
 
@@ -48,7 +50,11 @@ pub fn answers_into(trace: &[u8], out: &mut [u8]) -> Replayed
 {
     let judged = trace::judge(trace);
     match judged {
-        Judged::Refused(fault) => Replayed::Refused(fault),
+        Judged::Refused(fault) => {
+            let refusal = fault.refusal;
+            let within = fault.within;
+            Replayed::Refused(refusal, within)
+        }
         Judged::Sound(head) => {
             let number = head.operations;
             if out.len() < TRACE_ANSWER_SIZE * (number as usize) {
