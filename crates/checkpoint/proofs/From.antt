@@ -1,19 +1,21 @@
 -- What a replay from a checkpoint comes to: refused where it is missing or not readable, and the lines behind it where its board is. Assumes nothing.
 use Prim.Native.Nat.{ℕ, suc, _+_, _-_, _*_, _<_, _≤_}
-use mathlib.Core.Bool.{true, false}
+use mathlib.Core.Bool.{Bool, true, false, not}
 use mathlib.Core.List.{List, _++_}
 use mathlib.Core.Path.{_≡_, refl, sym, ap, subst, _∙_}
 use native.Mathlib.Nat.{zero-add}
 use native.Mathlib.Omega.{arith}
+use lib.Dec.{ltb}
 use lib.ListN.{length, take, drop, length-take, length-drop}
-use borrow.Author.Tests.{lt-ltb, le-ltb}
+use borrow.Author.Tests.{lt-ltb, le-ltb, ltb-true}
 use Rattle.board.specs.declared.Board.{Board}
 use Rattle.board_encoding.specs.Places.{boardSize}
 use Rattle.board_encoding.specs.Loaded.{boardReadable, boardIn}
 use Rattle.in_bytes.specs.Inner.{isBoard, boardFound}
 use Rattle.trace.specs.declared.head.Head.{Head}
 use Rattle.trace.specs.declared.operation.Operation.{Operation}
-use Rattle.trace.specs.Judgement.{faultAt}
+use Rattle.trace.specs.Judgement.{Judgement, Faulted, refusedBy, sound, faultAt, refusedAt, ruled}
+use Rattle.trace.proofs.Values.{not-refused, again}
 use Rattle.trace.specs.Section.{checkpointPlace}
 use Rattle.line.specs.Line.{lineRoom}
 use Rattle.line.specs.Lines.{faultLine, endLine}
@@ -22,7 +24,7 @@ use Rattle.runner.specs.Printed.{toldFrom}
 use Rattle.runner.specs.Lent.{Replaying, inRoom}
 use Rattle.runner.specs.Inner.{foundFrom}
 use Rattle.checkpoint.specs.Boards.{operationsTo, boardPart, checkpointBytes, checkpointsIn}
-use Rattle.checkpoint.specs.From.{startAt, linesFrom, fromText}
+use Rattle.checkpoint.specs.From.{startAt, startChecked, linesFrom, fromText}
 use Rattle.checkpoint.specs.Inner.{traceFound, linesFound, fromFound}
 use Rattle.checkpoint.proofs.Found.{found-length, found-drop}
 
@@ -35,6 +37,38 @@ part-board bytes place h =
 pub board-there : (bytes : List ℕ) → isBoard bytes ≡ true → boardFound bytes ≡ boardIn bytes
 board-there bytes is = rw is refl
 
+-- the board's bytes, cut out of the trace
+pub part-at : (bytes : List ℕ) (n k place : ℕ) → place ≡ checkpointPlace n k → take (place + boardSize - place) (drop place bytes) ≡ checkpointBytes bytes n k
+part-at bytes n k place is =
+    let size : place + boardSize - place ≡ boardSize = omega arith in
+    (λ i. take (size i) (drop place bytes)) ∙ ap (boardPart bytes) is
+
+checked-refused : (j : Judgement Board) (f : Faulted) → startChecked j ≡ refusedBy f → j ≡ refusedBy f
+checked-refused (refusedBy g) f e = ap again e
+checked-refused (sound b) f e = absurd (not-refused tt f e)
+
+module _ (bytes : List ℕ) (n k : ℕ) where
+  pub start-missing : checkpointsIn bytes n ≤ k → refusedAt 18 (length bytes) ≡ startChecked (startAt bytes n k)
+  start-missing h = rw (le-ltb k (checkpointsIn bytes n) h) refl
+
+  pub start-unreadable : k < checkpointsIn bytes n → boardReadable (checkpointBytes bytes n k) ≡ false
+      → refusedAt 18 (checkpointPlace n k) ≡ startChecked (startAt bytes n k)
+  start-unreadable there is = rw (lt-ltb k (checkpointsIn bytes n) there) (rw is refl)
+
+  pub start-there : k < checkpointsIn bytes n → boardReadable (checkpointBytes bytes n k) ≡ true → sound tt ≡ startChecked (startAt bytes n k)
+  start-there there is = rw (lt-ltb k (checkpointsIn bytes n) there) (rw is refl)
+
+  begins-by : (few readable : Bool) → ltb k (checkpointsIn bytes n) ≡ few → boardReadable (checkpointBytes bytes n k) ≡ readable
+      → startChecked (ruled (not few) 18 (length bytes) (ruled (not readable) 18 (checkpointPlace n k) (sound (boardIn (checkpointBytes bytes n k))))) ≡ sound tt
+      → (k < checkpointsIn bytes n) × (boardReadable (checkpointBytes bytes n k) ≡ true)
+  begins-by true true few readable e = (ltb-true k (checkpointsIn bytes n) few, readable)
+  begins-by true false few readable e = absurd (not-refused tt (faultAt 18 (checkpointPlace n k)) (sym e))
+  begins-by false other few readable e = absurd (not-refused tt (faultAt 18 (length bytes)) (sym e))
+
+  -- where a replay can begin, the checkpoint is there and its bytes are a board
+  pub begins : startChecked (startAt bytes n k) ≡ sound tt → (k < checkpointsIn bytes n) × (boardReadable (checkpointBytes bytes n k) ≡ true)
+  begins = begins-by (ltb k (checkpointsIn bytes n)) (boardReadable (checkpointBytes bytes n k)) refl refl
+
 module _ (bytes : List ℕ) (head : Head) (k : ℕ) (out : List ℕ) where
   abbrev n : ℕ
   n = head .operations
@@ -42,14 +76,10 @@ module _ (bytes : List ℕ) (head : Head) (k : ℕ) (out : List ℕ) where
   many : length (foundFrom bytes 0 n) ≡ n
   many = found-length bytes 0 n
 
-  pub from-missing : checkpointsIn bytes n ≤ k → inRoom lineRoom (faultLine (faultAt 18 (length bytes))) out ≡ fromFound bytes (traceFound bytes head) k out
-  from-missing h = rw many (rw (le-ltb k (checkpointsIn bytes n) h) refl)
+  pub from-refused : (f : Faulted) → startChecked (startAt bytes n k) ≡ refusedBy f → inRoom lineRoom (faultLine f) out ≡ fromFound bytes (traceFound bytes head) k out
+  from-refused f is = rw many (rw (checked-refused (startAt bytes n k) f is) refl)
 
   module _ (there : k < checkpointsIn bytes n) where
-    pub from-unreadable : boardReadable (checkpointBytes bytes n k) ≡ false
-        → inRoom lineRoom (faultLine (faultAt 18 (checkpointPlace n k))) out ≡ fromFound bytes (traceFound bytes head) k out
-    from-unreadable is = rw many (rw (lt-ltb k (checkpointsIn bytes n) there) (rw is refl))
-
     pub from-readable : boardReadable (checkpointBytes bytes n k) ≡ true → operationsTo k ≤ n → (b : Board) → b ≡ boardIn (checkpointBytes bytes n k) → (first : ℕ) → first ≡ operationsTo k
         → inRoom (lineRoom * suc (n - first)) (linesFound bytes b first n) out ≡ fromFound bytes (traceFound bytes head) k out
     from-readable is few b spelled first at =

@@ -9,11 +9,14 @@ use Rattle.board_encoding.specs.Loaded.{boardReadable, boardIn}
 use Rattle.trace.specs.Judgement.{Judgement, refusedBy, sound, ruled, andThen}
 use Rattle.trace.specs.Section.{checkpointPlace}
 use Rattle.trace.specs.Trace.{Trace, readTrace}
+use Rattle.trace.specs.Answer.{faultOf}
 use Rattle.line.specs.Line.{lineRoom}
 use Rattle.line.specs.Lines.{endLine, faultLine}
 use Rattle.runner.specs.declared.Form.the-variants.{Lines}
 use Rattle.runner.specs.Printed.{toldFrom}
 use Rattle.runner.specs.Lent.{Replaying, inRoom}
+use Rattle.checkpoint.specs.declared.starting.Start.{Start}
+use Rattle.checkpoint.specs.declared.starting.Start.the-variants.{There, Refused}
 use Rattle.checkpoint.specs.Boards.{size, operationsTo, checkpointBytes, checkpointsIn}
 
 -- "18 .. for a replay from one that is missing or unreadable": a missing one's place is the whole length, an unreadable one's its first byte
@@ -43,6 +46,15 @@ fromJudged bytes k (sound t) = fromText t k (startAt bytes (size t) k)
 -- the board that the replay from checkpoint k begins with, or why there is none
 abbrev pub startOf : List ℕ → ℕ → Judgement Board
 startOf bytes k = andThen (readTrace bytes) (λ t. startAt bytes (size t) k)
+
+-- whether there is one, or why not ..
+abbrev pub startChecked : Judgement Board → Judgement Unit
+startChecked j = andThen j (λ b. sound tt)
+
+-- .. and what the code answers to that
+abbrev pub startFound : Start → Judgement Unit
+startFound There = sound tt
+startFound (Refused f) = refusedBy (faultOf f)
 
 -- what the replay from checkpoint k prints
 unfoldable pub printedFrom : List ℕ → ℕ → List ℕ

@@ -1,3 +1,4 @@
 pub mod Making
 pub mod Answered
 pub mod Leaves
+pub mod Fits
