@@ -42,7 +42,7 @@ answerAfter (Made numbers) answer = putFront (numbersAnswer numbers) answer
 abbrev pub answeredBy : Calling → List ℕ → BoardCalled
 answeredBy k answer = boardCalled (statusOf (k .called)) (k .bytes) (k .events) (answerAfter (k .called) answer)
 
--- "101, 102, 103, 104, then refusals 1 to 5, 7, 8, 15 and 16 in the order of docs/GLOSSARY.md"
+-- "101, 102, 103, 104, then refusals 1 to 5, 7, 8, 15 and 16 in the order of docs/REFUSALS.md"
 unfoldable pub boardOperation : ℕ → ℕ → ℕ → ℕ → List ℕ → List ℕ → List ℕ → BoardCalled
 boardOperation code target number place bytes events answer = answeredBy (call (operationOf code target number) (length answer) place bytes events) answer
 
