@@ -94,7 +94,7 @@ impl<'a> Asked<'a> {
         let pairs = checkpoints.iter().zip(&self.bare.replayed.boards);
         // "18 for the first checkpoint whose bytes differ, unreadable ones too"
         match pairs.into_iter().find(|(checkpoint, board)| checkpoint.bytes != **board) {
-            Some((checkpoint, _)) => Err((CHECKPOINT, checkpoint.place)),
+            Some((checkpoint, _)) => Err(Fault::outside(CHECKPOINT, checkpoint.place)),
             None => Ok(checkpoints.len()),
         }
     }
@@ -126,9 +126,9 @@ impl<'a> Asked<'a> {
     /// "18 .. for a replay from one that is missing or unreadable"
     fn start<'t>(&self, trace: &'t Trace, number: u32) -> Result<&'t Checkpoint, Fault> {
         let checkpoints = trace.checkpoints.as_deref().unwrap_or_default();
-        let Some(checkpoint) = checkpoints.get(number as usize) else { return Err((CHECKPOINT, self.bytes.len())) };
+        let Some(checkpoint) = checkpoints.get(number as usize) else { return Err(Fault::outside(CHECKPOINT, self.bytes.len())) };
         if !readable(&checkpoint.bytes) {
-            return Err((CHECKPOINT, checkpoint.place));
+            return Err(Fault::outside(CHECKPOINT, checkpoint.place));
         }
         Ok(checkpoint)
     }

@@ -6,10 +6,10 @@ use crate::random::Random;
 use crate::trace_frame::TraceFrame;
 use crate::trace_judge::{TraceJudge, LINE_ROOM, NUMBERS, SHORT_ANSWER, SHORT_OUT};
 use crate::trace_reader::read;
-use crate::trace_replay::refusal_line;
+use crate::trace_replay::{refusal_line, refusal_status};
 
-/// The numbers with which a trace is refused, with those of request L7.
-pub const REFUSALS: [usize; 9] = [3, 9, 10, 11, 12, 13, 14, 17, 18];
+/// The numbers with which a trace is refused, with those of requests L7 and L8.
+pub const REFUSALS: [usize; 11] = [3, 9, 10, 11, 12, 13, 17, 18, 19, 20, 21];
 
 /// Numbers of checkpoints that no trace has. At some of them a product with 256 or 111 that is kept in 32 bits would be small.
 const NO_CHECKPOINTS: [u32; 8] = [16, 256, 65_536, 0x00FF_FFFF, 0x0100_0000, 38_693_400, 0x8000_0000, u32::MAX];
@@ -18,7 +18,7 @@ const NO_CHECKPOINTS: [u32; 8] = [16, 256, 65_536, 0x00FF_FFFF, 0x0100_0000, 38_
 #[derive(Default)]
 pub struct Calls {
     pub done: u64,
-    pub refused: [u64; 19],
+    pub refused: [u64; 22],
 }
 
 impl Calls {
@@ -98,7 +98,7 @@ impl<'a> CheckpointJudge<'a> {
                 self.checks.done += 1;
                 self.compared += number as u64;
             }
-            Err((number, _)) => self.checks.refuse(number),
+            Err(fault) => self.checks.refuse(fault.number),
         }
         let frame = |out, answer| TraceFrame::check(bytes, out, answer, filler);
         self.writes("pit_check", bytes, frame(LINE_ROOM + more, NUMBERS + more % 17), asked.check_line().as_bytes());
@@ -109,11 +109,12 @@ impl<'a> CheckpointJudge<'a> {
         let (bytes, more, filler) = (asked.bytes, random.more(), random.next() as u8);
         let frame = |out, answer| TraceFrame::mark(bytes, out, answer, filler);
         match asked.marked() {
-            Err((number, _)) => {
-                self.marks.refuse(number);
-                self.plain.refuses(bytes, frame(bytes.len(), NUMBERS + more % 17), number);
+            Err(fault) => {
+                self.marks.refuse(fault.number);
+                let status = refusal_status(fault);
+                self.plain.refuses(bytes, frame(bytes.len(), NUMBERS + more % 17), status);
                 // The refusal comes before that of a short room.
-                self.refuses_short(bytes, frame, LINE_ROOM, number, random);
+                self.refuses_short(bytes, frame, LINE_ROOM, status, random);
             }
             Ok(marked) => {
                 self.marks.done += 1;
@@ -130,7 +131,7 @@ impl<'a> CheckpointJudge<'a> {
         let (bytes, more, filler) = (asked.bytes, random.more(), random.next() as u8);
         let (text, room) = match asked.from(&mut self.plain.reference, number) {
             Err(fault) => {
-                self.replays.refuse(fault.0);
+                self.replays.refuse(fault.number);
                 (refusal_line(fault), LINE_ROOM)
             }
             Ok(from) => {
@@ -185,7 +186,7 @@ impl<'a> CheckpointJudge<'a> {
         }
         let marked = asked.marked();
         for len in 0..marked.as_ref().map_or(LINE_ROOM, Vec::len) {
-            let due = marked.as_ref().map_or_else(|fault| fault.0, |_| SHORT_OUT);
+            let due = marked.as_ref().map_or_else(|fault| refusal_status(*fault), |_| SHORT_OUT);
             self.plain.refuses(bytes, TraceFrame::mark(bytes, len, NUMBERS, 0x5A), due);
         }
         for (len, out) in (0..NUMBERS).flat_map(|len| [(len, 0), (len, 8_192)]) {

@@ -14,9 +14,9 @@ use crate::trace_replay::replay as replay_on_the_original;
 const SEED: u64 = 8256;
 const SOUND: usize = 44;
 const TICKING: u32 = 18;
-/// Of each refusal of a trace, as they were before request L7: the sample has the traces that it had, and those with bytes behind the last operation print what they print now.
+/// Of each refusal of a trace, as they were before requests L7 and L8: the sample has the traces that it had, and they print what they print now. 19, 20 and 21 were one, 14.
 const REFUSED: usize = 7;
-const REFUSALS: [u32; 7] = [3, 9, 10, 11, 12, 13, 14];
+const REFUSALS: [&[u32]; 7] = [&[3], &[9], &[10], &[11], &[12], &[13], &[19, 20, 21]];
 /// No trace is longer but the last, which has as many operations as there may be.
 const MOST_BYTES: usize = 2_000;
 
@@ -64,8 +64,8 @@ fn traces() -> Vec<Vec<u8>> {
         let number = random.below(12);
         let mut trace = random.sound_trace(&mut reference, number, as_it_is);
         random.damage(&mut trace);
-        let Err((number, _)) = read_as_before(&trace) else { continue };
-        let place = REFUSALS.iter().position(|known| *known == number).expect("a refusal of a trace");
+        let Err(fault) = read_as_before(&trace) else { continue };
+        let place = REFUSALS.iter().position(|known| known.contains(&fault.number)).expect("a refusal of a trace");
         if left[place] > 0 {
             left[place] -= 1;
             traces.push(trace);

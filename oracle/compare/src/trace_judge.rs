@@ -6,7 +6,7 @@ use crate::reference::Reference;
 use crate::trace_frame::TraceFrame;
 use crate::trace_random::{changed, trace_of};
 use crate::trace_reader::{Operation, MOST_OPERATIONS};
-use crate::trace_replay::{replay, Replayed};
+use crate::trace_replay::{refusal_status, replay, Replayed};
 use crate::words_off::{self, is_bare_read, Pairs, HALF, HELD};
 
 pub const SHORT_ANSWER: u32 = 104;
@@ -23,7 +23,7 @@ pub struct TraceJudge<'a> {
     /// Sound traces and their operations; and damaged ones by the number of their refusal.
     pub sound: u64,
     pub operations: u64,
-    pub damaged: [u64; 18],
+    pub damaged: [u64; 22],
     /// Calls refused with 104 or 105.
     pub refused: u64,
     /// How often the reads said which words.
@@ -38,7 +38,7 @@ pub struct TraceJudge<'a> {
 
 impl<'a> TraceJudge<'a> {
     pub fn new(ours: &'a mut Ours) -> Self {
-        let (reference, damaged, pairs) = (Reference::default(), [0; 18], Pairs::default());
+        let (reference, damaged, pairs) = (Reference::default(), [0; 22], Pairs::default());
         let (sound, operations, refused, differ) = (0, 0, 0, 0);
         let (lines, read_lines, answers, read_answers) = (0, 0, 0, 0);
         Self { reference, ours, sound, operations, damaged, refused, pairs, lines, read_lines, answers, read_answers, differ }
@@ -69,7 +69,7 @@ impl<'a> TraceJudge<'a> {
                 self.operations += (answers.len() / ANSWER_BYTES) as u64;
                 words_off::reads(trace, answers).for_each(|place| self.pairs.add(answers[place + HALF], answers[place + HELD]));
             }
-            Err((number, _)) => self.damaged[*number as usize] += 1,
+            Err(fault) => self.damaged[fault.number as usize] += 1,
         }
         let more = if random.one_in(2) { 0 } else { random.below(60) as usize };
         self.ask_replay(trace, replayed, more, random);
@@ -90,7 +90,7 @@ impl<'a> TraceJudge<'a> {
         let (out, answer) = (random.below(100) as usize, random.below(NUMBERS as u64) as usize);
         self.refuses(trace, TraceFrame::answers(trace, out, answer, filler), SHORT_ANSWER);
         match &replayed.answers {
-            Err((number, _)) => self.refuses(trace, TraceFrame::answers(trace, out, NUMBERS + more % 17, filler), *number),
+            Err(fault) => self.refuses(trace, TraceFrame::answers(trace, out, NUMBERS + more % 17, filler), refusal_status(*fault)),
             Ok(answers) => {
                 let room = answers.len();
                 let frame = TraceFrame::answers(trace, room + more, NUMBERS + more % 17, filler);

@@ -1,4 +1,4 @@
-//! Reads a recorded trace. Written from document 01, "Recorded traces", and requests L1 and L7 of document 02, each rule under its sentence, without a look at our own reader.
+//! Reads a recorded trace. Written from document 01, "Recorded traces", and requests L1, L7 and L8 of document 02, each rule under its sentence, without a look at our own reader.
 
 use original::pit::board::{Board, LENGTH};
 
@@ -26,8 +26,21 @@ pub struct Checkpoint {
     pub bytes: Board,
 }
 
-/// A refusal's number, and the place that is printed with it.
-pub type Fault = (u32, usize);
+/// Why a trace is refused: the refusal's number, and the place that is printed with it.
+#[derive(Clone, Copy, Debug, PartialEq)]
+pub struct Fault {
+    pub number: u32,
+    pub place: usize,
+    /// L8: "name the operation's index, counted from 0, beside the byte offset". None for a fault outside operations.
+    pub operation: Option<u32>,
+}
+
+impl Fault {
+    /// L8: "The older line stays for faults outside operations".
+    pub fn outside(number: u32, place: usize) -> Self {
+        Self { number, place, operation: None }
+    }
+}
 
 pub const MOST_OPERATIONS: u32 = 4_096;
 
@@ -40,45 +53,54 @@ struct Reader<'a> {
 }
 
 impl Reader<'_> {
-    /// "Numbers are little-endian u32." "bytes present, then the rule": the number, and the place where it begins; the place of 9 is the total length.
+    /// "total length for 9". L8: "an unfinished operation still has only its total length"
+    fn unfinished(&self) -> Fault {
+        Fault::outside(9, self.bytes.len())
+    }
+
+    /// "Numbers are little-endian u32." "bytes present, then the rule": the number, and the place where it begins.
     fn number(&mut self) -> Result<(u32, usize), Fault> {
-        let Some(field) = self.bytes.get(self.at..self.at + 4) else { return Err((9, self.bytes.len())) };
+        let Some(field) = self.bytes.get(self.at..self.at + 4) else { return Err(self.unfinished()) };
         let at = self.at;
         self.at += 4;
         Ok((u32::from_le_bytes([field[0], field[1], field[2], field[3]]), at))
     }
 
     /// "Of an operation all six bytes, then code, target, number."
-    fn operation(&mut self) -> Result<Operation, Fault> {
-        let Some(field) = self.bytes.get(self.at..self.at + 6) else { return Err((9, self.bytes.len())) };
+    fn operation(&mut self, index: u32) -> Result<Operation, Fault> {
+        let Some(field) = self.bytes.get(self.at..self.at + 6) else { return Err(self.unfinished()) };
         let at = self.at;
         self.at += 6;
         let operation =
             Operation { code: field[0], target: field[1], number: u32::from_le_bytes([field[2], field[3], field[4], field[5]]) };
+        let broken = |number, place| Err(Fault { number, place, operation: Some(index) });
         // 02: "12 now means not 1 to 9"
         if !(1..=9).contains(&operation.code) {
-            return Err((12, at));
+            return broken(12, at);
         }
-        // "Target 0 for 6, 7, 8." 02: "Trace code 9, target 0"
+        // "Target 0 for 6, 7, 8." 02: "Trace code 9, target 0"; "19 target not 0 where it must be"
         if operation.code >= 6 && operation.target != 0 {
-            return Err((14, at + 1));
+            return broken(19, at + 1);
         }
-        // "Number 0 for 2, 5, 8; at most 255 for 1; at most 1 for 3." Of 9 document 02 says nothing: one above 65,536 is refused when it is run.
+        // "Number 0 for 2, 5, 8"; 02: "20 number not 0 where it must be", however large it is
+        if matches!(operation.code, 2 | 5 | 8) && operation.number != 0 {
+            return broken(20, at + 2);
+        }
+        // "at most 255 for 1; at most 1 for 3"; 02: "21 number or model too large". Of 9's number document 02 says nothing: one above 65,536 is refused when it is run.
         let most = match operation.code {
-            2 | 5 | 8 => 0,
             1 => 255,
             3 => 1,
             _ => u32::MAX,
         };
         if operation.number > most {
-            return Err((14, at + 2));
+            return broken(21, at + 2);
         }
         Ok(operation)
     }
 
-    /// L7: "9 covers an unfinished section"; its place is the total length, as of every 9. What a checkpoint's bytes are is no matter of form.
+    /// L7: "9 covers an unfinished section". What a checkpoint's bytes are is no matter of form.
     fn checkpoint(&mut self) -> Result<Checkpoint, Fault> {
-        let Some(field) = self.bytes.get(self.at..self.at + LENGTH) else { return Err((9, self.bytes.len())) };
+        let Some(field) = self.bytes.get(self.at..self.at + LENGTH) else { return Err(self.unfinished()) };
         let place = self.at;
         self.at += LENGTH;
         Ok(Checkpoint { place, bytes: field.try_into().expect("a board's bytes") })
@@ -89,23 +111,24 @@ impl Reader<'_> {
         // "Section one: count 2, then divisor and model (0 8253, 1 8254)."
         let (count, at) = self.number()?;
         if count != 2 {
-            return Err((10, at));
+            return Err(Fault::outside(10, at));
         }
         let (divisor, at) = self.number()?;
         // "A zero divisor is 3."
         if divisor == 0 {
-            return Err((3, at));
+            return Err(Fault::outside(3, at));
         }
         let (model, at) = self.number()?;
+        // L8: "21 number or model too large"
         if model > 1 {
-            return Err((14, at));
+            return Err(Fault::outside(21, at));
         }
         // "Section two: operation count, then operations"
         let (count, at) = self.number()?;
         if count > MOST_OPERATIONS {
-            return Err((11, at));
+            return Err(Fault::outside(11, at));
         }
-        let operations = (0..count).map(|_| self.operation()).collect::<Result<Vec<_>, Fault>>()?;
+        let operations = (0..count).map(|index| self.operation(index)).collect::<Result<Vec<_>, Fault>>()?;
         Ok(Trace { divisor, model: model as u8, operations, end: self.at, checkpoints: None })
     }
 
@@ -118,7 +141,7 @@ impl Reader<'_> {
         let (count, at) = self.number()?;
         // "17 for a checkpoint count other than the operations divided by 256, rounded down"
         if count as usize != operations / BETWEEN {
-            return Err((17, at));
+            return Err(Fault::outside(17, at));
         }
         (0..count).map(|_| self.checkpoint()).collect::<Result<Vec<_>, Fault>>().map(Some)
     }
@@ -126,7 +149,7 @@ impl Reader<'_> {
     /// "first extra byte for 13"
     fn at_the_end(&self) -> Result<(), Fault> {
         if self.at < self.bytes.len() {
-            return Err((13, self.at));
+            return Err(Fault::outside(13, self.at));
         }
         Ok(())
     }

@@ -25,16 +25,25 @@ pub struct Replayed {
 }
 
 impl Replayed {
-    /// "a fault prints only `trace refused N at P`"
-    pub fn refused((number, place): Fault) -> Self {
-        let text = refusal_line((number, place));
+    /// A fault has only its line.
+    pub fn refused(fault: Fault) -> Self {
+        let text = refusal_line(fault);
         let (answers_before, boards) = (Vec::new(), Vec::new());
-        Replayed { text_before: text.clone(), text, answers: Err((number, place)), answers_before, boards, fault: None }
+        Replayed { text_before: text.clone(), text, answers: Err(fault), answers_before, boards, fault: None }
     }
 }
 
-pub fn refusal_line((number, place): Fault) -> String {
-    format!("trace refused {number} at {place}\n")
+/// "a fault prints only `trace refused N at P`". 02, L8: "The line becomes `trace refused N at P operation I`. The older line stays for faults outside operations".
+pub fn refusal_line(Fault { number, place, operation }: Fault) -> String {
+    match operation {
+        Some(index) => format!("trace refused {number} at {place} operation {index}\n"),
+        None => format!("trace refused {number} at {place}\n"),
+    }
+}
+
+/// What `pit_answers` and `pit_mark` return of a refused trace, by docs/ENCODING.md: the number, and inside an operation 256 times its index more, counted from 1.
+pub fn refusal_status(Fault { number, operation, .. }: Fault) -> u32 {
+    number + 256 * operation.map_or(0, |index| index + 1)
 }
 
 pub fn replay(reference: &mut Reference, bytes: &[u8]) -> Replayed {

@@ -129,7 +129,7 @@ fn traces(ours: &mut Ours, operations: u64, seed: u64) -> Compared {
     let mut judge = TraceJudge::new(ours);
     trace_exhaustive::run(&mut judge);
     trace_judge::run(&mut judge, operations / OPERATIONS_A_TRACE, seed);
-    let damaged: Vec<String> = [3, 9, 10, 11, 12, 13, 14, 17].map(|number| format!("{number}: {}", judge.damaged[number])).to_vec();
+    let damaged: Vec<String> = [3, 9, 10, 11, 12, 13, 17, 19, 20, 21].map(|number| format!("{number}: {}", judge.damaged[number])).to_vec();
     println!("sound traces: {} with {} operations", judge.sound, judge.operations);
     println!("damaged traces: {} ({})", judge.damaged.iter().sum::<u64>(), damaged.join(", "));
     println!(
