@@ -47,6 +47,7 @@ mod trace_judge;
 mod trace_random;
 mod trace_reader;
 mod trace_replay;
+mod trace_rules;
 mod turns;
 mod whole_run;
 mod words_off;

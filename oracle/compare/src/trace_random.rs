@@ -21,7 +21,7 @@ const OPERATIONS: usize = 16;
 const DAMAGES: u64 = 12;
 
 /// The operation's six bytes.
-fn bytes_of(operation: Operation) -> [u8; 6] {
+pub fn bytes_of(operation: Operation) -> [u8; 6] {
     let [a, b, c, d] = operation.number.to_le_bytes();
     [operation.code, operation.target, a, b, c, d]
 }

@@ -8,7 +8,8 @@ use crate::tick_original::TickJudge;
 use crate::trace_judge::TraceJudge;
 use crate::{board_counts, board_exhaustive, board_operations, board_owed, board_random, board_refusals};
 use crate::{checkpoint_exhaustive, checkpoint_random};
-use crate::{differences, exhaustive, operations, random, refusals, samples, tick_ours, tick_waves, trace_exhaustive, trace_judge, turns};
+use crate::{differences, exhaustive, operations, random, refusals, samples, tick_ours, tick_waves, turns};
+use crate::{trace_exhaustive, trace_judge, trace_rules};
 use std::time::Instant;
 
 /// A trace, one with checkpoints, and a tick of a record, for so many random operations.
@@ -127,9 +128,11 @@ fn boards(ours: &mut Ours, operations: u64, seed: u64) -> Compared {
 fn traces(ours: &mut Ours, operations: u64, seed: u64) -> Compared {
     let started = Instant::now();
     let mut judge = TraceJudge::new(ours);
+    let rules = trace_rules::run(&mut judge);
     trace_exhaustive::run(&mut judge);
     trace_judge::run(&mut judge, operations / OPERATIONS_A_TRACE, seed);
     let damaged: Vec<String> = [3, 9, 10, 11, 12, 13, 17, 19, 20, 21].map(|number| format!("{number}: {}", judge.damaged[number])).to_vec();
+    println!("traces that are written out, with what documents 01 and 02 say of them: {rules}");
     println!("sound traces: {} with {} operations", judge.sound, judge.operations);
     println!("damaged traces: {} ({})", judge.damaged.iter().sum::<u64>(), damaged.join(", "));
     println!(
