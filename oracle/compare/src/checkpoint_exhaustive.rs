@@ -7,6 +7,7 @@ use crate::checkpoint_judge::CheckpointJudge;
 use crate::checkpoint_original::calm;
 use crate::random::Random;
 use crate::reference::{Reference, WORK_OFF};
+use crate::trace_faults::{broken, places, with, BROKEN};
 use crate::trace_random::{changed, put, trace_of};
 use crate::trace_reader::{read, Operation, BETWEEN};
 use original::pit::board::{put_number, Board, DIVISOR, LENGTH, MODEL, OWED};
@@ -36,6 +37,9 @@ pub fn run(judge: &mut CheckpointJudge) {
     let without_ticks = calm(judge, &mut making, 800, &mut random);
     orders(judge, &without_ticks, &mut random);
     orders(judge, &ticking(&mut making, 800, &mut random), &mut random);
+    for number in [1, 3, 800, 4_096] {
+        operations(judge, &ticking(&mut making, number, &mut random), &mut random);
+    }
 }
 
 /// A sound trace of any operations, ticks and read-backs among them.
@@ -214,23 +218,44 @@ fn orders(judge: &mut CheckpointJudge, bare: &Bare, random: &mut Random) {
     }
 }
 
-/// A trace with a fault of form: in its head, in its last operation, in the count, an unfinished section, a byte too many.
+/// A trace with a fault of form: in its head, in an operation, in the count, an unfinished section, a byte too many.
 fn spoilt(bytes: &[u8], section: usize) -> Vec<Vec<u8>> {
-    let with = |place: usize, byte: u8| {
+    let put = |(place, byte): (usize, u8)| {
         let mut bytes = bytes.to_vec();
         bytes[place] = byte;
         bytes
     };
-    let (cut, longer) = (bytes[..bytes.len() - 1].to_vec(), [bytes, &[0]].concat());
-    vec![with(0, 3), with(8, 2), with(13, 0xFF), with(section - 6, 10), with(section, 0), with(section + 1, 1), cut, longer]
+    let mut spoilt: Vec<Vec<u8>> = [(0, 3), (8, 2), (13, 0xFF), (section, 0), (section + 1, 1)].map(put).to_vec();
+    spoilt.extend([bytes[..bytes.len() - 1].to_vec(), [bytes, &[0]].concat()]);
+    let places = places((section - 16) / 6);
+    spoilt.extend(places.iter().flat_map(|index| BROKEN.map(|operation| with(bytes, *index, operation))));
+    spoilt
 }
 
-/// Every room that is too short, of the trace with its own section, without one, with a checkpoint that is none, and of one that is refused.
+/// The first, a middle and the last operation breaks a rule, in every way; behind them stands no section, the trace's own, one of another count, one that is cut, one with a byte too many.
+fn operations(judge: &mut CheckpointJudge, bare: &Bare, random: &mut Random) {
+    let (section, mut counted) = (bare.section(), bare.section());
+    counted[0] ^= 1;
+    let sections = [&[], &section[..], &counted, &section[..section.len() - 1], &[&section[..], &[0]].concat()];
+    let length = (bare.bytes.len() - 16) / 6;
+    for (index, operation) in places(length).iter().flat_map(|index| broken().into_iter().map(move |operation| (*index, operation))) {
+        let bytes = with(&bare.bytes, index, operation);
+        judge.ask(&[&bytes[..], random.one_of(&sections)].concat(), bare, random);
+    }
+    for (index, operation) in places(length).iter().flat_map(|index| BROKEN.map(|operation| (*index, operation))) {
+        let bytes = with(&bare.bytes, index, operation);
+        for section in sections {
+            judge.ask(&[&bytes[..], section].concat(), bare, random);
+        }
+    }
+}
+
+/// Every room that is too short, of the trace with its own section, without one, with a checkpoint that is none, and of two that are refused, one of them inside an operation.
 fn rooms(judge: &mut CheckpointJudge, bare: &Bare, random: &mut Random) {
     let marked = bare.marked();
     let mut unreadable = marked.clone();
     unreadable[bare.bytes.len() + FIRST + MODEL] = 2 + random.below(254) as u8;
-    for bytes in [&marked[..], &bare.bytes[..], &unreadable[..], &marked[..marked.len() - 1]] {
+    for bytes in [&marked[..], &bare.bytes[..], &unreadable[..], &marked[..marked.len() - 1], &with(&marked, 100, BROKEN[3])] {
         judge.every_length(bytes, bare, 0);
     }
     judge.every_length(&marked, bare, 1);

@@ -6,34 +6,22 @@ use crate::random::Random;
 use crate::trace_frame::TraceFrame;
 use crate::trace_judge::{TraceJudge, LINE_ROOM, NUMBERS, SHORT_ANSWER, SHORT_OUT};
 use crate::trace_reader::read;
+use crate::trace_refused::Refused;
 use crate::trace_replay::{refusal_line, refusal_status};
-
-/// The numbers with which a trace is refused, with those of requests L7 and L8.
-pub const REFUSALS: [usize; 11] = [3, 9, 10, 11, 12, 13, 17, 18, 19, 20, 21];
 
 /// Numbers of checkpoints that no trace has. At some of them a product with 256 or 111 that is kept in 32 bits would be small.
 const NO_CHECKPOINTS: [u32; 8] = [16, 256, 65_536, 0x00FF_FFFF, 0x0100_0000, 38_693_400, 0x8000_0000, u32::MAX];
 
-/// Calls of one function: those that do what is asked for, and those of a trace that is refused, by the refusal's number.
+/// Calls of one function: those that do what is asked for, and those of a trace that is refused.
 #[derive(Default)]
 pub struct Calls {
     pub done: u64,
-    pub refused: [u64; 22],
+    pub refused: Refused,
 }
 
 impl Calls {
-    fn refuse(&mut self, number: u32) {
-        self.refused[number as usize] += 1;
-    }
-
     pub fn all(&self) -> u64 {
-        self.done + self.refused.iter().sum::<u64>()
-    }
-
-    /// The refusals that came up, with how often.
-    pub fn show(&self) -> String {
-        let seen = REFUSALS.iter().filter(|number| self.refused[**number] > 0);
-        seen.map(|number| format!("{number}: {}", self.refused[*number])).collect::<Vec<_>>().join(", ")
+        self.done + self.refused.all()
     }
 }
 
@@ -98,7 +86,7 @@ impl<'a> CheckpointJudge<'a> {
                 self.checks.done += 1;
                 self.compared += number as u64;
             }
-            Err(fault) => self.checks.refuse(fault.number),
+            Err(fault) => self.checks.refused.add(bytes, fault),
         }
         let frame = |out, answer| TraceFrame::check(bytes, out, answer, filler);
         self.writes("pit_check", bytes, frame(LINE_ROOM + more, NUMBERS + more % 17), asked.check_line().as_bytes());
@@ -110,7 +98,7 @@ impl<'a> CheckpointJudge<'a> {
         let frame = |out, answer| TraceFrame::mark(bytes, out, answer, filler);
         match asked.marked() {
             Err(fault) => {
-                self.marks.refuse(fault.number);
+                self.marks.refused.add(bytes, fault);
                 let status = refusal_status(fault);
                 self.plain.refuses(bytes, frame(bytes.len(), NUMBERS + more % 17), status);
                 // The refusal comes before that of a short room.
@@ -131,7 +119,7 @@ impl<'a> CheckpointJudge<'a> {
         let (bytes, more, filler) = (asked.bytes, random.more(), random.next() as u8);
         let (text, room) = match asked.from(&mut self.plain.reference, number) {
             Err(fault) => {
-                self.replays.refuse(fault.number);
+                self.replays.refused.add(bytes, fault);
                 (refusal_line(fault), LINE_ROOM)
             }
             Ok(from) => {

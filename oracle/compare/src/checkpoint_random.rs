@@ -14,7 +14,7 @@ use original::pit::board::{Board, LENGTH};
 /// Damaged sections of each trace.
 const DAMAGED: usize = 6;
 /// Ways to damage one.
-const DAMAGES: u64 = 8;
+const DAMAGES: u64 = 9;
 
 /// So many traces, every second one without ticks.
 pub fn run(judge: &mut CheckpointJudge, traces: u64, seed: u64) {
@@ -69,6 +69,7 @@ impl Random {
                 let other = at + 4 + LENGTH * self.below(checkpoints as u64) as usize;
                 bytes.copy_within(other..other + LENGTH, board);
             }
+            7 => self.damage_operation(bytes),
             _ => self.damage(bytes),
         }
     }

@@ -4,6 +4,7 @@
 use crate::board_counts::numbers;
 use crate::random::Random;
 use crate::reference::WORK_OFF;
+use crate::trace_faults;
 use crate::trace_judge::TraceJudge;
 use crate::trace_random::trace_of;
 use crate::trace_reader::Operation;
@@ -25,6 +26,7 @@ pub fn run(judge: &mut TraceJudge) {
     counting_programs(judge, &mut random);
     ticking_programs(judge, &mut random);
     polling_programs(judge, &mut random);
+    trace_faults::run(judge, &mut random);
 }
 
 fn single_operations(judge: &mut TraceJudge, random: &mut Random) {

@@ -3,9 +3,11 @@
 use crate::ours::Ours;
 use crate::random::Random;
 use crate::reference::Reference;
+use crate::trace_faults::{with, BROKEN};
 use crate::trace_frame::TraceFrame;
 use crate::trace_random::{changed, trace_of};
 use crate::trace_reader::{Operation, MOST_OPERATIONS};
+use crate::trace_refused::Refused;
 use crate::trace_replay::{refusal_status, replay, Replayed};
 use crate::words_off::{self, is_bare_read, Pairs, HALF, HELD};
 
@@ -20,10 +22,10 @@ pub const NUMBERS: usize = 16;
 pub struct TraceJudge<'a> {
     pub reference: Reference,
     pub ours: &'a mut Ours,
-    /// Sound traces and their operations; and damaged ones by the number of their refusal.
+    /// Sound traces and their operations; and damaged ones.
     pub sound: u64,
     pub operations: u64,
-    pub damaged: [u64; 22],
+    pub damaged: Refused,
     /// Calls refused with 104 or 105.
     pub refused: u64,
     /// How often the reads said which words.
@@ -38,7 +40,7 @@ pub struct TraceJudge<'a> {
 
 impl<'a> TraceJudge<'a> {
     pub fn new(ours: &'a mut Ours) -> Self {
-        let (reference, damaged, pairs) = (Reference::default(), [0; 22], Pairs::default());
+        let (reference, damaged, pairs) = (Reference::default(), Refused::default(), Pairs::default());
         let (sound, operations, refused, differ) = (0, 0, 0, 0);
         let (lines, read_lines, answers, read_answers) = (0, 0, 0, 0);
         Self { reference, ours, sound, operations, damaged, refused, pairs, lines, read_lines, answers, read_answers, differ }
@@ -69,7 +71,7 @@ impl<'a> TraceJudge<'a> {
                 self.operations += (answers.len() / ANSWER_BYTES) as u64;
                 words_off::reads(trace, answers).for_each(|place| self.pairs.add(answers[place + HALF], answers[place + HELD]));
             }
-            Err(fault) => self.damaged[fault.number as usize] += 1,
+            Err(fault) => self.damaged.add(trace, *fault),
         }
         let more = if random.one_in(2) { 0 } else { random.below(60) as usize };
         self.ask_replay(trace, replayed, more, random);
@@ -240,6 +242,7 @@ pub fn run(judge: &mut TraceJudge, traces: u64, seed: u64) {
     }
     judge.every_length(&case_r);
     judge.every_length(&case_r[..40]);
+    judge.every_length(&with(&case_r, 7, BROKEN[1]));
     for number in [u64::from(MOST_OPERATIONS), u64::from(MOST_OPERATIONS) + 1] {
         let trace = random.sound_trace(&mut making, number, changed);
         judge.ask(&trace, &mut random);
@@ -249,6 +252,9 @@ pub fn run(judge: &mut TraceJudge, traces: u64, seed: u64) {
         let mut trace = random.sound_trace(&mut making, length, changed);
         for _ in 0..turn % 3 {
             random.damage(&mut trace);
+        }
+        if turn % 3 > 0 && random.one_in(4) {
+            random.damage_operation(&mut trace);
         }
         // Behind some the count of a section without checkpoints, and behind some of these bytes too many.
         if random.one_in(8) {

@@ -131,10 +131,10 @@ fn traces(ours: &mut Ours, operations: u64, seed: u64) -> Compared {
     let rules = trace_rules::run(&mut judge);
     trace_exhaustive::run(&mut judge);
     trace_judge::run(&mut judge, operations / OPERATIONS_A_TRACE, seed);
-    let damaged: Vec<String> = [3, 9, 10, 11, 12, 13, 17, 19, 20, 21].map(|number| format!("{number}: {}", judge.damaged[number])).to_vec();
     println!("traces that are written out, with what documents 01 and 02 say of them: {rules}");
     println!("sound traces: {} with {} operations", judge.sound, judge.operations);
-    println!("damaged traces: {} ({})", judge.damaged.iter().sum::<u64>(), damaged.join(", "));
+    println!("damaged traces: {} ({})", judge.damaged.all(), judge.damaged.show());
+    println!("of these inside an operation: {}", judge.damaged.show_inside());
     println!(
         "of their time calls judged by document 01 alone: {}, without catch_up and run: {}",
         judge.reference.oracle.alone, judge.reference.oracle.not_ticked
@@ -162,10 +162,16 @@ fn checkpoints(ours: &mut Ours, operations: u64, seed: u64) -> Compared {
         checks.all(),
         checks.done,
         judge.compared,
-        checks.show()
+        checks.refused.show()
     );
-    println!("traces marked: {}, refused with {}", marks.done, marks.show());
-    println!("replays from a checkpoint: {}, {} of them from another board; refused with {}", replays.done, judge.others, replays.show());
+    println!("traces marked: {}, refused with {}", marks.done, marks.refused.show());
+    println!("of these inside an operation: {}", marks.refused.show_inside());
+    println!(
+        "replays from a checkpoint: {}, {} of them from another board; refused with {}",
+        replays.done,
+        judge.others,
+        replays.refused.show()
+    );
     println!("checkpoints at which the original stands that is not stopped on its way: {}", judge.stood);
     println!("plain replays of these traces: {} with {} operations", plain.sound, plain.operations);
     println!("refused by ours with 104 or 105, or with a damaged trace's number: {}", plain.refused);
