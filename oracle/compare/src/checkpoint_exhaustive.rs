@@ -240,12 +240,12 @@ fn operations(judge: &mut CheckpointJudge, bare: &Bare, random: &mut Random) {
     let length = (bare.bytes.len() - 16) / 6;
     for (index, operation) in places(length).iter().flat_map(|index| broken().into_iter().map(move |operation| (*index, operation))) {
         let bytes = with(&bare.bytes, index, operation);
-        judge.ask(&[&bytes[..], random.one_of(&sections)].concat(), bare, random);
+        judge.ask_changed(&[&bytes[..], random.one_of(&sections)].concat(), bare, random);
     }
     for (index, operation) in places(length).iter().flat_map(|index| BROKEN.map(|operation| (*index, operation))) {
         let bytes = with(&bare.bytes, index, operation);
         for section in sections {
-            judge.ask(&[&bytes[..], section].concat(), bare, random);
+            judge.ask_changed(&[&bytes[..], section].concat(), bare, random);
         }
     }
 }
