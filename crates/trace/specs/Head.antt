@@ -17,8 +17,7 @@ field bytes place broken number after = present bytes (place + 4) (ruled (broken
 abbrev pub headOf : List ℕ → Head
 headOf bytes = record { divisor = numberAt bytes 4; model = modelNumbered (numberAt bytes 8); operations = numberAt bytes 12 }
 
--- 10 "settings count not 2"; "A zero divisor is 3."; 21 "number or model too
--- large" (02, L8); 11 "operation count above 4,096"
+-- 10 "settings count not 2"; "A zero divisor is 3."; 21 "number or model too large" (02, L8); 11 "operation count above 4,096"
 unfoldable pub readHead : List ℕ → Judgement Head
 readHead bytes =
     field bytes 0 (λ count. not (eqb count 2)) 10
