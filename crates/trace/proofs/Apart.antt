@@ -1,4 +1,4 @@
--- An answer of the code is known by what it says: a sound value, or document 01's number and place. Assumes nothing.
+-- An answer of the code is known by what it says: a sound value, or document 01's number and place, with the operation that is named. Assumes nothing.
 use mathlib.Core.Path.{_≡_, refl, ap}
 use Rattle.refusal.proofs.Apart.{apart-by}
 use Rattle.refusal.proofs.Numbered.{refusalNumbered, numbered-back}

@@ -1,4 +1,4 @@
--- Demand 1 for traces: the number and the place of a refusal are those of the first row whose condition holds, both ways. Assumes nothing.
+-- Demand 1 for traces: the number, the place and the operation of a refusal are those of the first row whose condition holds, both ways. Assumes nothing.
 use Prim.Native.Nat.{ℕ, zero, suc, _+_, _<_, _≤_}
 use mathlib.Core.Path.{_≡_, sym, _∙_}
 use mathlib.Core.Bool.{Bool, true, false, not, cond, _||_}
@@ -116,6 +116,6 @@ trace-decided bytes f =
     (field-decided bytes 12 (tooManyOperations bytes) (ltb 4096 (at 12)) _ _ f (below 4096 (at 12))
     (then-decided (operationsFrom bytes 0 (at 12)) _ (operationsOrder bytes 0 (at 12)) _ f (operations-decided bytes 0 (at 12)) behind)))))
 
--- both directions, for all bytes, every number and every place
+-- both directions, for all bytes, every number, every place and every operation named or none
 pub trace-refused-exactly : (bytes : List ℕ) (f : Faulted) → (readTrace bytes ≡ refusedBy f) ↔ FirstAt (order bytes) f
 trace-refused-exactly bytes f = trace-decided bytes f .exactly
