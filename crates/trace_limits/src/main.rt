@@ -228,7 +228,7 @@ fn rules() {
     whole(b"run, target 255", 7, 255, 0);
     whole(b"reset, target 1 and number 1", 8, 1, 1);
     whole(b"reset, number 16777216", 8, 0, 16777216);
-    whole(b"work off, target 1", 9, 1, 65537);
+    whole(b"work off, target 1 and number 65537", 9, 1, 65537);
     one(
         b"code 10, a byte missing",
         Operation {
@@ -270,9 +270,29 @@ fn when_run() {
 
 fn last_places() {
     last(b"4,096 operations", 2, 0x40, 0, LONGEST);
-    last(b"last code 10", 10, 0, 0, LONGEST);
-    last(b"last target 1", 6, 1, 0, LONGEST);
-    last(b"last number 2", 3, 0, 2, LONGEST);
+    last(b"last code 0", 0, 0, 0, LONGEST);
+    last(
+        b"last code 10, target and number wrong for 8",
+        10,
+        1,
+        1,
+        LONGEST,
+    );
+    last(b"last is a write, number 256", 1, 0x43, 256, LONGEST);
+    last(b"last is a read, number 1", 2, 0x43, 1, LONGEST);
+    last(b"last is a gate, number 2", 3, 0, 2, LONGEST);
+    last(b"last is a load cycle, number 1", 5, 0, 1, LONGEST);
+    last(b"last is a catch-up, target 1", 6, 1, 0, LONGEST);
+    last(b"last is a run, target 255", 7, 255, 0, LONGEST);
+    last(b"last is a reset, target 1 and number 1", 8, 1, 1, LONGEST);
+    last(b"last is a reset, number 16777216", 8, 0, 16777216, LONGEST);
+    last(
+        b"last is a work off, target 1 and number 65537",
+        9,
+        1,
+        65537,
+        LONGEST,
+    );
     last(b"last byte missing", 2, 0x40, 0, LONGEST - 1);
     last(b"last operation, a byte more", 2, 0x40, 0, LONGEST + 1);
 }
