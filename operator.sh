@@ -47,7 +47,7 @@ take() {
     { exec <"$file"; } 2>/dev/null || fail "cannot read $file"
 }
 
-need_rt() { command -v rt >/dev/null || fail 'rt, the Rattle toolchain, is not found; README.md, "Run it", says what it is'; }
+need_rt() { command -v rt >/dev/null || fail 'rt, the Rattle toolchain, is not found; README.md, "Run it", says what is needed'; }
 
 # How many crates of crates.txt a program needs in turn, itself among them.
 crates_of() { # PROGRAM
