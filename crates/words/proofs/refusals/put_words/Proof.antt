@@ -1,0 +1,55 @@
+-- `words::refusals::put_words` meets its contract. Assumes nothing.
+use borrow.Author.Needs.{needs}
+use borrow.Author.Tests.{ne-eqb}
+use Rattle.words.specs.Refusals.{refusalWords}
+use Rattle.words.proofs.refusals.put_words.Statement.{statement}
+use Rattle.words.proofs.refusals.put_words.Tie as tie
+
+returns : tie.Need-returns
+unfolding refusalWords
+returns c = rw (c .before .before .before .before .before .match .keys1) (c .before .before .put .ensures)
+
+returns-2 : tie.Need-returns-2
+unfolding refusalWords
+returns-2 c = rw (c .before .before .before .before .before .match .keys2) (c .before .before .put2 .ensures)
+
+returns-3 : tie.Need-returns-3
+unfolding refusalWords
+returns-3 c = rw (c .before .before .before .before .before .match .keys3) (c .before .before .put3 .ensures)
+
+returns-4 : tie.Need-returns-4
+unfolding refusalWords
+returns-4 c = rw (c .before .before .before .before .before .match .keys4) (c .before .before .put4 .ensures)
+
+returns-5 : tie.Need-returns-5
+unfolding refusalWords
+returns-5 c = rw (c .before .before .before .before .before .match .keys5) (c .before .before .put5 .ensures)
+
+returns-6 : tie.Need-returns-6
+unfolding refusalWords
+returns-6 c = rw (c .before .before .before .before .before .match .keys6) (c .before .before .put6 .ensures)
+
+returns-7 : tie.Need-returns-7
+unfolding refusalWords
+returns-7 c = rw (c .before .before .before .before .before .match .keys7) (c .before .before .put7 .ensures)
+
+returns-8 : tie.Need-returns-8
+unfolding refusalWords
+returns-8 c =
+    let none = c .before .before .before .before .match .rest in
+    simp (ne-eqb _ _ (none .0 .0 .0 .0 .0 .0 .1), ne-eqb _ _ (none .0 .0 .0 .0 .0 .1), ne-eqb _ _ (none .0 .0 .0 .0 .1), ne-eqb _ _ (none .0 .0 .0 .1), ne-eqb _ _ (none .0 .0 .1), ne-eqb _ _ (none .0 .1), ne-eqb _ _ (none .1)) (c .before .before .put-trace-words .ensures)
+
+pub put-words-spec : {M : Type 1} → statement M
+put-words-spec =
+    tie.close
+    (tie.spec
+    (λ c. search needs) (λ c κs. search needs) (λ c. search needs) (λ c κs. search needs) (λ c. search needs) (λ c κs. search needs)
+    (λ c. search needs) (λ c κs. search needs) (λ c. search needs) (λ c κs. search needs) (λ c. search needs) (λ c κs. search needs)
+    (λ c. search needs) (λ c κs. search needs) (λ c κs. search needs) (λ c. search needs) returns
+    (λ c. search needs) returns-2
+    (λ c. search needs) returns-3
+    (λ c. search needs) returns-4
+    (λ c. search needs) returns-5
+    (λ c. search needs) returns-6
+    (λ c. search needs) returns-7
+    (λ c. search needs) returns-8)

@@ -1,0 +1,4 @@
+pub mod Refusals
+pub mod Commands
+pub mod Operations
+pub mod Inner
