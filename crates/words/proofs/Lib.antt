@@ -1,2 +1,3 @@
+pub mod Grown
 pub mod Rows
 pub mod Short

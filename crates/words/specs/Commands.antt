@@ -1,6 +1,6 @@
 -- What a byte written to the command port asks for, in words: document 01, "Control byte", and document 02, L5.
 use Prim.Native.Nat.{ℕ}
-use mathlib.Core.Bool.{Bool, true, false, cond}
+use mathlib.Core.Bool.{Bool, cond}
 use mathlib.Core.List.{List, [], _++_}
 use Rattle.channel.specs.declared.ControlWord.{ControlWord}
 use Rattle.channel.specs.declared.RwMode.{RwMode}
@@ -13,6 +13,9 @@ use Rattle.control.specs.Control.{namesAny}
 use Rattle.text.specs.Ascii.{ascii}
 use Rattle.text.specs.Number.{decimal}
 
+abbrev pub latchWords : ℕ → List ℕ
+latchWords channel = ascii " ; channel " ++ decimal channel ++ ascii ", latch the count"
+
 -- "Access .. 1 low, 2 high, 3 low then high."
 abbrev pub accessWords : RwMode → List ℕ
 accessWords Lsb = ascii ", low only"
@@ -21,8 +24,7 @@ accessWords LsbMsb = ascii ", low then high"
 
 -- "Bit 0 BCD"
 abbrev pub radixWords : Bool → List ℕ
-radixWords true = ascii ", BCD"
-radixWords false = ascii ", binary"
+radixWords bcd = cond bcd (ascii ", BCD") (ascii ", binary")
 
 -- a mode set: channel, mode, access and radix
 abbrev pub modeSetWords : ℕ → ControlWord → List ℕ
@@ -32,21 +34,20 @@ modeSetWords channel word =
 
 -- L5: "latches the counts", "latches the status": whether it does the one and the other
 abbrev pub latchedWords : Bool → Bool → List ℕ
-latchedWords true true = ascii " count and status"
-latchedWords true false = ascii " count"
-latchedWords false true = ascii " status"
-latchedWords false false = ascii " nothing"
+latchedWords counts status =
+    cond counts (cond status (ascii " count and status") (ascii " count"))
+    (cond status (ascii " status") (ascii " nothing"))
 
--- words that are said only if a test holds
-abbrev pub saidIf : Bool → List ℕ → List ℕ
-saidIf said words = cond said words []
+-- a channel's number, if it is named
+abbrev pub channelIf : Bool → List ℕ → List ℕ
+channelIf named number = cond named number []
 
 -- L5: "of the channels named by bits 1 to 3"
 abbrev pub namedWords : ReadBackWord → List ℕ
 namedWords word =
     cond (namesAny word)
-    (ascii " of channels" ++ saidIf (word .«names_0») (ascii " 0") ++ saidIf (word .«names_1») (ascii " 1")
-    ++ saidIf (word .«names_2») (ascii " 2"))
+    (ascii " of channels" ++ channelIf (word .«names_0») (ascii " 0") ++ channelIf (word .«names_1») (ascii " 1")
+    ++ channelIf (word .«names_2») (ascii " 2"))
     (ascii " of no channel")
 
 -- a read-back: what it latches, and of which channels
@@ -56,6 +57,6 @@ readBackWords word = ascii " ; read back" ++ latchedWords (word .counts) (word .
 -- "nothing .., latch, or mode set"; L5 adds the read-back
 abbrev pub commandWords : Command → List ℕ
 commandWords Nothing = ascii " ; no command"
-commandWords (LatchCount channel) = ascii " ; channel " ++ decimal channel ++ ascii ", latch the count"
+commandWords (LatchCount channel) = latchWords channel
 commandWords (SetMode channel word) = modeSetWords channel word
 commandWords (ReadBack word) = readBackWords word

@@ -1,6 +1,6 @@
 -- An operation of a trace in words. Ports and written bytes are two hex digits, all other numbers decimal.
 use Prim.Native.Nat.{ℕ, _-_}
-use mathlib.Core.Bool.{Bool, true, false, cond}
+use mathlib.Core.Bool.{Bool, cond}
 use mathlib.Core.List.{List, [], _++_}
 use lib.Dec.{eqb, ltb}
 use Rattle.channel.specs.declared.PitType.{PitType}
@@ -29,8 +29,7 @@ abbrev pub readWords : ℕ → List ℕ
 readWords port = ascii "read " ++ hex port ++ dataPortWords port []
 
 abbrev pub levelWords : Bool → List ℕ
-levelWords true = ascii " high"
-levelWords false = ascii " low"
+levelWords level = cond level (ascii " high") (ascii " low")
 
 abbrev pub gateWords : ℕ → Bool → List ℕ
 gateWords channel level = ascii "set gate of channel " ++ decimal channel ++ levelWords level
@@ -38,14 +37,26 @@ gateWords channel level = ascii "set gate of channel " ++ decimal channel ++ lev
 abbrev pub countsWords : ℕ → ℕ → List ℕ
 countsWords channel number = ascii "count channel " ++ decimal channel ++ ascii ", " ++ decimal number ++ ascii " times"
 
--- the model tells what a written command asks for: only the 8254 has a read-back
+abbrev pub loadWords : ℕ → List ℕ
+loadWords channel = ascii "load cycle of channel " ++ decimal channel
+
+abbrev pub catchUpWords : ℕ → List ℕ
+catchUpWords ticks = ascii "catch up " ++ decimal ticks ++ ascii " system ticks"
+
+abbrev pub runWords : ℕ → List ℕ
+runWords ticks = ascii "run " ++ decimal ticks ++ ascii " system ticks"
+
+abbrev pub workOffWords : ℕ → List ℕ
+workOffWords most = ascii "work off at most " ++ decimal most ++ ascii " owed ticks"
+
+-- each operation in its words. The model tells what a written command asks for: only the 8254 has a read-back
 unfoldable pub operationWords : PitType → Operation → List ℕ
 operationWords model (WritePort port byte) = writeWords model port byte
 operationWords model (ReadPort port) = readWords port
 operationWords model (SetChannelGate channel level) = gateWords channel level
 operationWords model (Counts channel number) = countsWords channel number
-operationWords model (LoadCycle channel) = ascii "load cycle of channel " ++ decimal channel
-operationWords model (CatchUp ticks) = ascii "catch up " ++ decimal (ticks .0) ++ ascii " system ticks"
-operationWords model (Run ticks) = ascii "run " ++ decimal (ticks .0) ++ ascii " system ticks"
+operationWords model (LoadCycle channel) = loadWords channel
+operationWords model (CatchUp ticks) = catchUpWords (ticks .0)
+operationWords model (Run ticks) = runWords (ticks .0)
 operationWords model Reset = ascii "reset"
-operationWords model (WorkOff number) = ascii "work off at most " ++ decimal number ++ ascii " owed ticks"
+operationWords model (WorkOff most) = workOffWords most

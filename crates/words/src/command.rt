@@ -1,101 +1,92 @@
 // What a byte written to the command port asks for.
-use crate::pieces::put_if;
-use crate::pieces::put_number;
+use crate::pieces::with_either;
+use crate::pieces::with_if;
+use crate::pieces::with_number;
+use crate::pieces::with_text;
 use channel::ControlWord;
 use channel::RwMode;
 use control::Command;
 use control::ReadBackWord;
+use line::Line;
 ghost use mathlib.Core.Path.{_≡_};
 ghost use Prim.Native.Nat.{_+_, _≤_};
 ghost use lib.ListN.{length};
 ghost use Rattle.text.specs.Put.{put, answered};
-ghost use Rattle.words.specs.Commands.{accessWords, radixWords, modeSetWords, latchedWords, namedWords, readBackWords, commandWords};
+ghost use Rattle.words.specs.Commands.{latchWords, accessWords, modeSetWords, latchedWords, namedWords, readBackWords, commandWords};
 ghost use Rattle.words.specs.Inner.{namedRoom, askedRoom};
 
-fn put_access(out: &mut [u8], place: usize, access: RwMode) -> usize
-    ensures { λ r. ⌜ answered r (now (out .exit)) ≡ put (accessWords access) (now (out .entry)) place ⌝ }
+fn with_latch(line: Line, channel: u8) -> Line
+    requires { ⌜ line .len + askedRoom ≤ length (line .bytes) ⌝ }
+    ensures { λ r. ⌜ (answered (r .len) (r .bytes) ≡ put (latchWords channel) (line .bytes) (line .len)) × (length (latchWords channel) ≤ askedRoom) ⌝ }
+{
+    let mut next = with_text(line, b" ; channel ");
+    next = with_number(next, channel as u32);
+    with_text(next, b", latch the count")
+}
+
+fn with_access(line: Line, access: RwMode) -> Line
+    ensures { λ r. ⌜ answered (r .len) (r .bytes) ≡ put (accessWords access) (line .bytes) (line .len) ⌝ }
 {
     match access {
-        RwMode::Lsb => text::put(out, place, b", low only"),
-        RwMode::Msb => text::put(out, place, b", high only"),
-        RwMode::LsbMsb => text::put(out, place, b", low then high"),
+        RwMode::Lsb => with_text(line, b", low only"),
+        RwMode::Msb => with_text(line, b", high only"),
+        RwMode::LsbMsb => with_text(line, b", low then high"),
     }
 }
 
-fn put_radix(out: &mut [u8], place: usize, bcd: bool) -> usize
-    ensures { λ r. ⌜ answered r (now (out .exit)) ≡ put (radixWords bcd) (now (out .entry)) place ⌝ }
-{
-    if bcd {
-        return text::put(out, place, b", BCD");
-    }
-    text::put(out, place, b", binary")
-}
-
-fn put_mode_set(out: &mut [u8], place: usize, channel: u8, word: ControlWord) -> usize
-    requires { ⌜ place + askedRoom ≤ length (now out) ⌝ }
-    ensures { λ r. ⌜ (answered r (now (out .exit)) ≡ put (modeSetWords channel word) (now (out .entry)) place) × (length (modeSetWords channel word) ≤ askedRoom) ⌝ }
+fn with_mode_set(line: Line, channel: u8, word: ControlWord) -> Line
+    requires { ⌜ line .len + askedRoom ≤ length (line .bytes) ⌝ }
+    ensures { λ r. ⌜ (answered (r .len) (r .bytes) ≡ put (modeSetWords channel word) (line .bytes) (line .len)) × (length (modeSetWords channel word) ≤ askedRoom) ⌝ }
 {
     let mode = word.mode;
     let access = word.rw_mode;
-    let mut next = put_number(out, place, b" ; channel ", channel as u32, b", mode ");
-    next = text::put_decimal(out, next, mode.number() as u64);
-    next = put_access(out, next, access);
-    put_radix(out, next, word.bcd_mode)
+    let mut next = with_text(line, b" ; channel ");
+    next = with_number(next, channel as u32);
+    next = with_text(next, b", mode ");
+    next = with_number(next, mode.number() as u32);
+    next = with_access(next, access);
+    with_either(next, word.bcd_mode, b", BCD", b", binary")
 }
 
-fn put_latched(out: &mut [u8], place: usize, counts: bool, status: bool) -> usize
-    ensures { λ r. ⌜ answered r (now (out .exit)) ≡ put (latchedWords counts status) (now (out .entry)) place ⌝ }
+fn with_latched(line: Line, counts: bool, status: bool) -> Line
+    ensures { λ r. ⌜ answered (r .len) (r .bytes) ≡ put (latchedWords counts status) (line .bytes) (line .len) ⌝ }
 {
     if counts {
-        if status {
-            return text::put(out, place, b" count and status");
-        }
-        return text::put(out, place, b" count");
+        return with_either(line, status, b" count and status", b" count");
     }
-    if status {
-        return text::put(out, place, b" status");
-    }
-    text::put(out, place, b" nothing")
+    with_either(line, status, b" status", b" nothing")
 }
 
-fn put_named(out: &mut [u8], place: usize, word: ReadBackWord) -> usize
-    requires { ⌜ place + namedRoom ≤ length (now out) ⌝ }
-    ensures { λ r. ⌜ (answered r (now (out .exit)) ≡ put (namedWords word) (now (out .entry)) place) × (length (namedWords word) ≤ namedRoom) ⌝ }
+fn with_named(line: Line, word: ReadBackWord) -> Line
+    requires { ⌜ line .len + namedRoom ≤ length (line .bytes) ⌝ }
+    ensures { λ r. ⌜ (answered (r .len) (r .bytes) ≡ put (namedWords word) (line .bytes) (line .len)) × (length (namedWords word) ≤ namedRoom) ⌝ }
 {
     if word.names_any() {
-        let mut next = text::put(out, place, b" of channels");
-        next = put_if(out, next, word.names_0, b" 0");
-        next = put_if(out, next, word.names_1, b" 1");
-        return put_if(out, next, word.names_2, b" 2");
+        let mut next = with_text(line, b" of channels");
+        next = with_if(next, word.names_0, b" 0");
+        next = with_if(next, word.names_1, b" 1");
+        return with_if(next, word.names_2, b" 2");
     }
-    text::put(out, place, b" of no channel")
+    with_text(line, b" of no channel")
 }
 
-fn put_read_back(out: &mut [u8], place: usize, word: ReadBackWord) -> usize
-    requires { ⌜ place + askedRoom ≤ length (now out) ⌝ }
-    ensures { λ r. ⌜ (answered r (now (out .exit)) ≡ put (readBackWords word) (now (out .entry)) place) × (length (readBackWords word) ≤ askedRoom) ⌝ }
+fn with_read_back(line: Line, word: ReadBackWord) -> Line
+    requires { ⌜ line .len + askedRoom ≤ length (line .bytes) ⌝ }
+    ensures { λ r. ⌜ (answered (r .len) (r .bytes) ≡ put (readBackWords word) (line .bytes) (line .len)) × (length (readBackWords word) ≤ askedRoom) ⌝ }
 {
-    let mut next = text::put(out, place, b" ; read back");
-    next = put_latched(out, next, word.counts, word.status);
-    put_named(out, next, word)
+    let mut next = with_text(line, b" ; read back");
+    next = with_latched(next, word.counts, word.status);
+    with_named(next, word)
 }
 
-pub(crate) fn put_command(out: &mut [u8], place: usize, command: Command) -> usize
-    requires { ⌜ place + askedRoom ≤ length (now out) ⌝ }
-    ensures { λ r. ⌜ (answered r (now (out .exit)) ≡ put (commandWords command) (now (out .entry)) place) × (length (commandWords command) ≤ askedRoom) ⌝ }
+pub(crate) fn with_command(line: Line, command: Command) -> Line
+    requires { ⌜ line .len + askedRoom ≤ length (line .bytes) ⌝ }
+    ensures { λ r. ⌜ (answered (r .len) (r .bytes) ≡ put (commandWords command) (line .bytes) (line .len)) × (length (commandWords command) ≤ askedRoom) ⌝ }
 {
     match command {
-        Command::Nothing => text::put(out, place, b" ; no command"),
-        Command::LatchCount(channel) => {
-            put_number(
-                out,
-                place,
-                b" ; channel ",
-                channel as u32,
-                b", latch the count",
-            )
-        }
-        Command::SetMode(channel, word) => put_mode_set(out, place, channel, word),
-        Command::ReadBack(word) => put_read_back(out, place, word),
+        Command::Nothing => with_text(line, b" ; no command"),
+        Command::LatchCount(channel) => with_latch(line, channel),
+        Command::SetMode(channel, word) => with_mode_set(line, channel, word),
+        Command::ReadBack(word) => with_read_back(line, word),
     }
 }

@@ -1,9 +1,14 @@
 // An operation of a trace in words.
-use crate::command::put_command;
-use crate::pieces::put_number;
+use crate::command::with_command;
+use crate::pieces::empty;
+use crate::pieces::said;
+use crate::pieces::said_number;
+use crate::pieces::with_either;
+use crate::pieces::with_hex;
+use crate::pieces::with_number;
+use crate::pieces::with_text;
 use channel::PitType;
 use control::command_of;
-use line::LINE_ROOM;
 use line::Line;
 use trace::operation::Operation;
 ghost use mathlib.Core.Path.{_≡_};
@@ -12,110 +17,109 @@ ghost use lib.ListN.{length};
 ghost use Rattle.text.specs.Put.{put, answered};
 ghost use Rattle.line.specs.Line.{lineOf, lineRoom};
 ghost use Rattle.words.specs.Inner.{askedRoom};
-ghost use Rattle.words.specs.Operations.{dataPortWords, writtenWords, writeWords, readWords, gateWords, countsWords, operationWords};
+ghost use Rattle.words.specs.Operations.{dataPortWords, writtenWords, writeWords, readWords, gateWords, countsWords, loadWords, catchUpWords, runWords, workOffWords, operationWords};
 
 // Behind the channel there can be up to eight bytes more.
-fn put_data_port(out: &mut [u8], place: usize, port: u8, behind: &[u8]) -> usize
+fn with_data_port(line: Line, port: u8, behind: &[u8]) -> Line
     requires { ⌜ length (now behind) ≤ 8 ⌝ }
-    requires { ⌜ place + askedRoom ≤ length (now out) ⌝ }
-    ensures { λ r. ⌜ (answered r (now (out .exit)) ≡ put (dataPortWords port (now (behind .entry))) (now (out .entry)) place) × (length (dataPortWords port (now (behind .entry))) ≤ askedRoom) ⌝ }
+    requires { ⌜ line .len + askedRoom ≤ length (line .bytes) ⌝ }
+    ensures { λ r. ⌜ (answered (r .len) (r .bytes) ≡ put (dataPortWords port (now (behind .entry))) (line .bytes) (line .len)) × (length (dataPortWords port (now (behind .entry))) ≤ askedRoom) ⌝ }
 {
     if port < 0x40 {
-        return text::put(out, place, b"");
+        return line;
     }
     if 0x42 < port {
-        return text::put(out, place, b"");
+        return line;
     }
-    put_number(out, place, b" ; channel ", (port - 0x40) as u32, behind)
+    let mut next = with_text(line, b" ; channel ");
+    next = with_number(next, (port - 0x40) as u32);
+    with_text(next, behind)
 }
 
-fn put_written(out: &mut [u8], place: usize, model: PitType, port: u8, byte: u8) -> usize
-    requires { ⌜ place + askedRoom ≤ length (now out) ⌝ }
-    ensures { λ r. ⌜ (answered r (now (out .exit)) ≡ put (writtenWords model port byte) (now (out .entry)) place) × (length (writtenWords model port byte) ≤ askedRoom) ⌝ }
+fn with_written(line: Line, model: PitType, port: u8, byte: u8) -> Line
+    requires { ⌜ line .len + askedRoom ≤ length (line .bytes) ⌝ }
+    ensures { λ r. ⌜ (answered (r .len) (r .bytes) ≡ put (writtenWords model port byte) (line .bytes) (line .len)) × (length (writtenWords model port byte) ≤ askedRoom) ⌝ }
 {
     if port == 0x43 {
-        return put_command(out, place, command_of(byte, model));
+        return with_command(line, command_of(byte, model));
     }
-    put_data_port(out, place, port, b", data")
+    with_data_port(line, port, b", data")
 }
 
-fn put_write(out: &mut [u8], place: usize, model: PitType, port: u8, byte: u8) -> usize
-    requires { ⌜ place + lineRoom ≤ length (now out) ⌝ }
-    ensures { λ r. ⌜ (answered r (now (out .exit)) ≡ put (writeWords model port byte) (now (out .entry)) place) × (length (writeWords model port byte) ≤ lineRoom) ⌝ }
+fn write_words(model: PitType, port: u8, byte: u8) -> Line
+    ensures { λ r. ⌜ (r ≡ lineOf (writeWords model port byte)) × (length (writeWords model port byte) ≤ lineRoom) ⌝ }
 {
-    let mut next = text::put(out, place, b"write ");
-    next = text::put_hex(out, next, port);
-    next = text::put(out, next, b" ");
-    next = text::put_hex(out, next, byte);
-    put_written(out, next, model, port, byte)
+    let mut line = with_text(empty(), b"write ");
+    line = with_hex(line, port);
+    line = with_text(line, b" ");
+    line = with_hex(line, byte);
+    with_written(line, model, port, byte)
 }
 
-fn put_read(out: &mut [u8], place: usize, port: u8) -> usize
-    requires { ⌜ place + lineRoom ≤ length (now out) ⌝ }
-    ensures { λ r. ⌜ (answered r (now (out .exit)) ≡ put (readWords port) (now (out .entry)) place) × (length (readWords port) ≤ lineRoom) ⌝ }
+fn read_words(port: u8) -> Line
+    ensures { λ r. ⌜ (r ≡ lineOf (readWords port)) × (length (readWords port) ≤ lineRoom) ⌝ }
 {
-    let mut next = text::put(out, place, b"read ");
-    next = text::put_hex(out, next, port);
-    put_data_port(out, next, port, b"")
+    let mut line = with_text(empty(), b"read ");
+    line = with_hex(line, port);
+    with_data_port(line, port, b"")
 }
 
-fn put_gate(out: &mut [u8], place: usize, channel: u8, level: bool) -> usize
-    requires { ⌜ place + lineRoom ≤ length (now out) ⌝ }
-    ensures { λ r. ⌜ (answered r (now (out .exit)) ≡ put (gateWords channel level) (now (out .entry)) place) × (length (gateWords channel level) ≤ lineRoom) ⌝ }
+fn gate_words(channel: u8, level: bool) -> Line
+    ensures { λ r. ⌜ (r ≡ lineOf (gateWords channel level)) × (length (gateWords channel level) ≤ lineRoom) ⌝ }
 {
-    if level {
-        return put_number(
-            out,
-            place,
-            b"set gate of channel ",
-            channel as u32,
-            b" high",
-        );
-    }
-    put_number(out, place, b"set gate of channel ", channel as u32, b" low")
+    let mut line = with_text(empty(), b"set gate of channel ");
+    line = with_number(line, channel as u32);
+    with_either(line, level, b" high", b" low")
 }
 
-fn put_counts(out: &mut [u8], place: usize, channel: u8, number: u32) -> usize
-    requires { ⌜ place + lineRoom ≤ length (now out) ⌝ }
-    ensures { λ r. ⌜ (answered r (now (out .exit)) ≡ put (countsWords channel number) (now (out .entry)) place) × (length (countsWords channel number) ≤ lineRoom) ⌝ }
+fn counts_words(channel: u8, number: u32) -> Line
+    ensures { λ r. ⌜ (r ≡ lineOf (countsWords channel number)) × (length (countsWords channel number) ≤ lineRoom) ⌝ }
 {
-    let mut next = put_number(out, place, b"count channel ", channel as u32, b", ");
-    next = text::put_decimal(out, next, number as u64);
-    text::put(out, next, b" times")
+    let mut line = with_text(empty(), b"count channel ");
+    line = with_number(line, channel as u32);
+    line = with_text(line, b", ");
+    line = with_number(line, number);
+    with_text(line, b" times")
 }
 
-fn put_operation(out: &mut [u8], place: usize, model: PitType, operation: Operation) -> usize
-    requires { ⌜ place + lineRoom ≤ length (now out) ⌝ }
-    ensures { λ r. ⌜ (answered r (now (out .exit)) ≡ put (operationWords model operation) (now (out .entry)) place) × (length (operationWords model operation) ≤ lineRoom) ⌝ }
+fn load_words(channel: u8) -> Line
+    ensures { λ r. ⌜ (r ≡ lineOf (loadWords channel)) × (length (loadWords channel) ≤ lineRoom) ⌝ }
 {
-    match operation {
-        Operation::WritePort(port, byte) => put_write(out, place, model, port, byte),
-        Operation::ReadPort(port) => put_read(out, place, port),
-        Operation::SetChannelGate(channel, level) => put_gate(out, place, channel, level),
-        Operation::Counts(channel, number) => put_counts(out, place, channel, number),
-        Operation::LoadCycle(channel) => {
-            put_number(out, place, b"load cycle of channel ", channel as u32, b"")
-        }
-        Operation::CatchUp(ticks) => put_number(
-            out,
-            place,
-            b"catch up ",
-            ticks.0,
-            b" system ticks",
-        ),
-        Operation::Run(ticks) => put_number(out, place, b"run ", ticks.0, b" system ticks"),
-        Operation::Reset => text::put(out, place, b"reset"),
-        Operation::WorkOff(number) => {
-            put_number(out, place, b"work off at most ", number, b" owed ticks")
-        }
-    }
+    let line = with_text(empty(), b"load cycle of channel ");
+    with_number(line, channel as u32)
+}
+
+fn catch_up_words(ticks: u32) -> Line
+    ensures { λ r. ⌜ (r ≡ lineOf (catchUpWords ticks)) × (length (catchUpWords ticks) ≤ lineRoom) ⌝ }
+{
+    said_number(b"catch up ", ticks, b" system ticks")
+}
+
+fn run_words(ticks: u32) -> Line
+    ensures { λ r. ⌜ (r ≡ lineOf (runWords ticks)) × (length (runWords ticks) ≤ lineRoom) ⌝ }
+{
+    said_number(b"run ", ticks, b" system ticks")
+}
+
+fn work_off_words(most: u32) -> Line
+    ensures { λ r. ⌜ (r ≡ lineOf (workOffWords most)) × (length (workOffWords most) ≤ lineRoom) ⌝ }
+{
+    said_number(b"work off at most ", most, b" owed ticks")
 }
 
 // The model decides what a byte written to the command port asks for.
 pub fn operation_words(model: PitType, operation: Operation) -> Line
     ensures { λ r. ⌜ (r ≡ lineOf (operationWords model operation)) × (length (operationWords model operation) ≤ lineRoom) ⌝ }
 {
-    let mut bytes = [0u8; LINE_ROOM];
-    let place = put_operation(&mut bytes, 0, model, operation);
-    Line { bytes, len: place }
+    match operation {
+        Operation::WritePort(port, byte) => write_words(model, port, byte),
+        Operation::ReadPort(port) => read_words(port),
+        Operation::SetChannelGate(channel, level) => gate_words(channel, level),
+        Operation::Counts(channel, number) => counts_words(channel, number),
+        Operation::LoadCycle(channel) => load_words(channel),
+        Operation::CatchUp(ticks) => catch_up_words(ticks.0),
+        Operation::Run(ticks) => run_words(ticks.0),
+        Operation::Reset => said(b"reset"),
+        Operation::WorkOff(most) => work_off_words(most),
+    }
 }

@@ -1,34 +1,82 @@
-// Pieces that several texts are put together from.
+// A line that grows: each function hands back the line that it is given with something more behind it. What does not fit is left out, as in
+// `text::put`.
+use line::LINE_ROOM;
+use line::Line;
 ghost use mathlib.Core.Path.{_≡_};
-ghost use mathlib.Core.List.{_++_};
+ghost use mathlib.Core.Bool.{cond};
+ghost use mathlib.Core.List.{[], _++_};
 ghost use Prim.Native.Nat.{_+_, _≤_};
 ghost use lib.ListN.{length};
-ghost use Rattle.text.specs.Number.{decimal};
+ghost use Rattle.text.specs.Number.{decimal, hex};
 ghost use Rattle.text.specs.Put.{put, answered};
-ghost use Rattle.words.specs.Commands.{saidIf};
+ghost use Rattle.line.specs.Line.{lineOf, lineRoom};
 ghost use Rattle.words.specs.Inner.{numberRoom};
 
-// A number with text in front of it and behind it.
-pub(crate) fn put_number(
-    out: &mut [u8],
-    place: usize,
-    front: &[u8],
-    number: u32,
-    behind: &[u8],
-) -> usize
-    requires { ⌜ place + (length (now front) + numberRoom + length (now behind)) ≤ length (now out) ⌝ }
-    ensures { λ r. ⌜ (answered r (now (out .exit)) ≡ put (now (front .entry) ++ decimal number ++ now (behind .entry)) (now (out .entry)) place) × (length (decimal number) ≤ numberRoom) ⌝ }
+pub(crate) fn empty() -> Line
+    ensures { λ r. ⌜ r ≡ lineOf [] ⌝ }
 {
-    let mut next = text::put(out, place, front);
-    next = text::put_decimal(out, next, number as u64);
-    text::put(out, next, behind)
+    Line {
+        bytes: [0u8; LINE_ROOM],
+        len: 0,
+    }
 }
 
-pub(crate) fn put_if(out: &mut [u8], place: usize, said: bool, words: &[u8]) -> usize
-    ensures { λ r. ⌜ answered r (now (out .exit)) ≡ put (saidIf said (now (words .entry))) (now (out .entry)) place ⌝ }
+pub(crate) fn with_text(line: Line, text: &[u8]) -> Line
+    ensures { λ r. ⌜ answered (r .len) (r .bytes) ≡ put (now (text .entry)) (line .bytes) (line .len) ⌝ }
+{
+    let mut bytes = line.bytes;
+    let len = text::put(&mut bytes, line.len, text);
+    Line { bytes, len }
+}
+
+pub(crate) fn with_number(line: Line, number: u32) -> Line
+    ensures { λ r. ⌜ (answered (r .len) (r .bytes) ≡ put (decimal number) (line .bytes) (line .len)) × (length (decimal number) ≤ numberRoom) ⌝ }
+{
+    let mut bytes = line.bytes;
+    let len = text::put_decimal(&mut bytes, line.len, number as u64);
+    Line { bytes, len }
+}
+
+pub(crate) fn with_hex(line: Line, byte: u8) -> Line
+    ensures { λ r. ⌜ answered (r .len) (r .bytes) ≡ put (hex byte) (line .bytes) (line .len) ⌝ }
+{
+    let mut bytes = line.bytes;
+    let len = text::put_hex(&mut bytes, line.len, byte);
+    Line { bytes, len }
+}
+
+pub(crate) fn with_either(line: Line, first: bool, one: &[u8], other: &[u8]) -> Line
+    ensures { λ r. ⌜ answered (r .len) (r .bytes) ≡ put (cond first (now (one .entry)) (now (other .entry))) (line .bytes) (line .len) ⌝ }
+{
+    if first {
+        return with_text(line, one);
+    }
+    with_text(line, other)
+}
+
+pub(crate) fn with_if(line: Line, said: bool, text: &[u8]) -> Line
+    ensures { λ r. ⌜ answered (r .len) (r .bytes) ≡ put (cond said (now (text .entry)) []) (line .bytes) (line .len) ⌝ }
 {
     if said {
-        return text::put(out, place, words);
+        return with_text(line, text);
     }
-    text::put(out, place, b"")
+    line
+}
+
+// A text as a line.
+pub(crate) fn said(text: &[u8]) -> Line
+    requires { ⌜ length (now text) ≤ lineRoom ⌝ }
+    ensures { λ r. ⌜ r ≡ lineOf (now (text .entry)) ⌝ }
+{
+    with_text(empty(), text)
+}
+
+// A number as a line, with text in front of it and behind it.
+pub(crate) fn said_number(front: &[u8], number: u32, behind: &[u8]) -> Line
+    requires { ⌜ length (now front) + numberRoom + length (now behind) ≤ lineRoom ⌝ }
+    ensures { λ r. ⌜ (r ≡ lineOf (now (front .entry) ++ decimal number ++ now (behind .entry))) × (length (now (front .entry) ++ decimal number ++ now (behind .entry)) ≤ lineRoom) ⌝ }
+{
+    let mut line = with_text(empty(), front);
+    line = with_number(line, number);
+    with_text(line, behind)
 }
