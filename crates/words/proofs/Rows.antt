@@ -1,4 +1,4 @@
--- The words of every refusal fit a line. Assumes nothing.
+-- The words of every refusal, and of every rule of a trace, fit a line. Assumes nothing.
 use Prim.Native.Nat.{ℕ, _≤_, max}
 use mathlib.Core.List.{List, [], _∷_, _++_}
 use native.Mathlib.Nat.{le-max-left, le-max-right, le-trans}
@@ -13,13 +13,14 @@ abbrev longest : List Row → ℕ
 longest [] = 0
 longest (r ∷ rows) = max (length (r .words)) (longest rows)
 
-none-longer : (rows : List Row) (number : ℕ) → length (wordsIn rows number) ≤ longest rows
-none-longer [] number = omega arith
-none-longer (r ∷ rows) number =
-    pick-holds (λ words. length words ≤ longest (r ∷ rows)) (eqb number (r .number)) (r .words) (wordsIn rows number)
-    (le-max-left (length (r .words)) (longest rows))
-    (le-trans (none-longer rows number) (le-max-right (length (r .words)) (longest rows)))
+none-longer : (rows : List Row) (number : ℕ) (other : List ℕ) (room : ℕ) → longest rows ≤ room → length other ≤ room
+    → length (wordsIn rows number other) ≤ room
+none-longer [] number other room h k = k
+none-longer (r ∷ rows) number other room h k =
+    pick-holds (λ words. length words ≤ room) (eqb number (r .number)) (r .words) (wordsIn rows number other)
+    (le-trans (le-max-left (length (r .words)) (longest rows)) h)
+    (none-longer rows number other room (le-trans (le-max-right (length (r .words)) (longest rows)) h) k)
 
 pub refusal-short : (number : ℕ) → length (refusalWords number) ≤ lineRoom
 unfolding refusalWords
-refusal-short number = omega (arith, none-longer (callRows ++ traceRows ++ addedRows) number)
+refusal-short number = none-longer (callRows ++ traceRows ++ addedRows) number [] lineRoom (omega arith) (omega arith)

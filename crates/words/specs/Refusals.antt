@@ -6,7 +6,7 @@ use mathlib.Core.List.{List, [], _∷_, _++_}
 use lib.Dec.{eqb}
 use Rattle.text.specs.Ascii.{ascii}
 
--- a refusal's number and its words
+-- a number and the words for it
 pub record Row : Type 0 where
   pub number : ℕ
   pub words : List ℕ
@@ -14,10 +14,10 @@ pub record Row : Type 0 where
 abbrev pub row : ℕ → String → Row
 row number words = record { number = number; words = ascii words }
 
--- the words in the row of a number, none where no row has it
-abbrev pub wordsIn : List Row → ℕ → List ℕ
-wordsIn [] number = []
-wordsIn (r ∷ rows) number = cond (eqb number (r .number)) (r .words) (wordsIn rows number)
+-- the words in the row of a number, or other words where no row has it
+abbrev pub wordsIn : List Row → ℕ → List ℕ → List ℕ
+wordsIn [] number other = other
+wordsIn (r ∷ rows) number other = cond (eqb number (r .number)) (r .words) (wordsIn rows number other)
 
 -- document 01's refusals of a call. 6 is gone: "6 is never given again" (02, L6)
 abbrev pub callRows : List Row
@@ -72,6 +72,6 @@ addedRows =
     row 21 "the number or the model is too large" ∷
     []
 
--- a refusal's words
+-- the words of a refusal, by its number; of a number that no refusal has there are none
 unfoldable pub refusalWords : ℕ → List ℕ
-refusalWords = wordsIn (callRows ++ traceRows ++ addedRows)
+refusalWords number = wordsIn (callRows ++ traceRows ++ addedRows) number []

@@ -20,7 +20,7 @@ fn with_latch(line: Line, channel: u8) -> Line
     ensures { λ r. ⌜ (answered (r .len) (r .bytes) ≡ put (latchWords channel) (line .bytes) (line .len)) × (length (latchWords channel) ≤ askedRoom) ⌝ }
 {
     let mut next = with_text(line, b" ; channel ");
-    next = with_number(next, channel as u32);
+    next = with_number(next, channel as u64);
     with_text(next, b", latch the count")
 }
 
@@ -41,9 +41,9 @@ fn with_mode_set(line: Line, channel: u8, word: ControlWord) -> Line
     let mode = word.mode;
     let access = word.rw_mode;
     let mut next = with_text(line, b" ; channel ");
-    next = with_number(next, channel as u32);
+    next = with_number(next, channel as u64);
     next = with_text(next, b", mode ");
-    next = with_number(next, mode.number() as u32);
+    next = with_number(next, mode.number() as u64);
     next = with_access(next, access);
     with_either(next, word.bcd_mode, b", BCD", b", binary")
 }

@@ -32,7 +32,7 @@ fn with_data_port(line: Line, port: u8, behind: &[u8]) -> Line
         return line;
     }
     let mut next = with_text(line, b" ; channel ");
-    next = with_number(next, (port - 0x40) as u32);
+    next = with_number(next, (port - 0x40) as u64);
     with_text(next, behind)
 }
 
@@ -68,7 +68,7 @@ fn gate_words(channel: u8, level: bool) -> Line
     ensures { λ r. ⌜ (r ≡ lineOf (gateWords channel level)) × (length (gateWords channel level) ≤ lineRoom) ⌝ }
 {
     let mut line = with_text(empty(), b"set gate of channel ");
-    line = with_number(line, channel as u32);
+    line = with_number(line, channel as u64);
     with_either(line, level, b" high", b" low")
 }
 
@@ -76,9 +76,9 @@ fn counts_words(channel: u8, number: u32) -> Line
     ensures { λ r. ⌜ (r ≡ lineOf (countsWords channel number)) × (length (countsWords channel number) ≤ lineRoom) ⌝ }
 {
     let mut line = with_text(empty(), b"count channel ");
-    line = with_number(line, channel as u32);
+    line = with_number(line, channel as u64);
     line = with_text(line, b", ");
-    line = with_number(line, number);
+    line = with_number(line, number as u64);
     with_text(line, b" times")
 }
 
@@ -86,7 +86,7 @@ fn load_words(channel: u8) -> Line
     ensures { λ r. ⌜ (r ≡ lineOf (loadWords channel)) × (length (loadWords channel) ≤ lineRoom) ⌝ }
 {
     let line = with_text(empty(), b"load cycle of channel ");
-    with_number(line, channel as u32)
+    with_number(line, channel as u64)
 }
 
 fn catch_up_words(ticks: u32) -> Line

@@ -29,11 +29,11 @@ pub(crate) fn with_text(line: Line, text: &[u8]) -> Line
     Line { bytes, len }
 }
 
-pub(crate) fn with_number(line: Line, number: u32) -> Line
-    ensures { λ r. ⌜ (answered (r .len) (r .bytes) ≡ put (decimal number) (line .bytes) (line .len)) × (length (decimal number) ≤ numberRoom) ⌝ }
+pub(crate) fn with_number(line: Line, number: u64) -> Line
+    ensures { λ r. ⌜ answered (r .len) (r .bytes) ≡ put (decimal number) (line .bytes) (line .len) ⌝ }
 {
     let mut bytes = line.bytes;
-    let len = text::put_decimal(&mut bytes, line.len, number as u64);
+    let len = text::put_decimal(&mut bytes, line.len, number);
     Line { bytes, len }
 }
 
@@ -77,6 +77,6 @@ pub(crate) fn said_number(front: &[u8], number: u32, behind: &[u8]) -> Line
     ensures { λ r. ⌜ (r ≡ lineOf (now (front .entry) ++ decimal number ++ now (behind .entry))) × (length (now (front .entry) ++ decimal number ++ now (behind .entry)) ≤ lineRoom) ⌝ }
 {
     let mut line = with_text(empty(), front);
-    line = with_number(line, number);
+    line = with_number(line, number as u64);
     with_text(line, behind)
 }

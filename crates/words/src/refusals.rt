@@ -3,14 +3,14 @@ use crate::pieces::empty;
 use crate::pieces::said;
 use line::Line;
 ghost use mathlib.Core.Path.{_≡_};
-ghost use mathlib.Core.List.{_++_};
+ghost use mathlib.Core.List.{[], _++_};
 ghost use Prim.Native.Nat.{_≤_};
 ghost use lib.ListN.{length};
 ghost use Rattle.line.specs.Line.{lineOf, lineRoom};
 ghost use Rattle.words.specs.Refusals.{wordsIn, traceRows, addedRows, refusalWords};
 
 fn added_words(number: u8) -> Line
-    ensures { λ r. ⌜ r ≡ lineOf (wordsIn addedRows number) ⌝ }
+    ensures { λ r. ⌜ r ≡ lineOf (wordsIn addedRows number []) ⌝ }
 {
     match number {
         15 => said(b"more than 65536 ticks are asked for"),
@@ -25,7 +25,7 @@ fn added_words(number: u8) -> Line
 }
 
 fn trace_words(number: u8) -> Line
-    ensures { λ r. ⌜ r ≡ lineOf (wordsIn (traceRows ++ addedRows) number) ⌝ }
+    ensures { λ r. ⌜ r ≡ lineOf (wordsIn (traceRows ++ addedRows) number []) ⌝ }
 {
     match number {
         9 => said(b"the trace ends inside a field, an operation or a board"),

@@ -24,9 +24,9 @@ returns c =
     let a = start .args in
     let w = a .word in
     let text = wrote (ascii " ; channel ") (a .line .bytes) (a .line .len) _ _ (first .with-text .ensures) in
-    let channel = and-then text (decimal (a .channel)) _ _ (second .with-number .ensures .0) in
+    let channel = and-then text (decimal (a .channel)) _ _ (second .with-number .ensures) in
     let word = and-then channel (ascii ", mode ") _ _ (third .with-text2 .ensures) in
-    let mode = and-then word (decimal (n .result)) _ _ (fourth .with-number2 .ensures .0) in
+    let mode = and-then word (decimal (n .result)) _ _ (fourth .with-number2 .ensures) in
     let access = and-then mode (accessWords (w .«rw_mode»)) _ _ (fifth .with-access .ensures) in
     let whole = and-then access (radixWords (w .«bcd_mode»)) _ _ (c .with-either .ensures) in
     rw (← n .ensures)

@@ -4,6 +4,7 @@ use lib.ListN.{length-append}
 use borrow.Author.Needs.{needs}
 use Rattle.text.specs.Ascii.{ascii}
 use Rattle.text.specs.Number.{decimal}
+use Rattle.text.proofs.Decimal.{decimal-u8}
 use Rattle.text.proofs.Puts.{wrote, and-then}
 use Rattle.words.specs.Operations.{levelWords}
 use Rattle.words.proofs.Grown.{grown}
@@ -19,10 +20,10 @@ returns c =
     let l = begin .empty .result in
     let a = begin .before .args in
     let text = wrote (ascii "set gate of channel ") (l .bytes) (l .len) _ _ (first .with-text .ensures) in
-    let channel = and-then text (decimal (a .channel)) _ _ (second .with-number .ensures .0) in
+    let channel = and-then text (decimal (a .channel)) _ _ (second .with-number .ensures) in
     let whole = and-then channel (levelWords (a .level)) _ _ (c .with-either .ensures) in
     grown l (begin .empty .ensures) whole
-    (simp length-append (omega (arith, second .with-number .ensures .1, either-short (a .level) (ascii " high") (ascii " low") 5 (omega arith) (omega arith))))
+    (simp length-append (omega (arith, decimal-u8 (a .channel) (omega arith), either-short (a .level) (ascii " high") (ascii " low") 5 (omega arith) (omega arith))))
 
 pub gate-words-spec : {M : Type 1} → statement M
 gate-words-spec =

@@ -3,6 +3,7 @@ use native.Mathlib.Omega.{arith}
 use borrow.Author.Needs.{needs}
 use Rattle.text.specs.Ascii.{ascii}
 use Rattle.text.specs.Number.{decimal}
+use Rattle.text.proofs.Decimal.{decimal-u8}
 use Rattle.text.proofs.Puts.{wrote, and-then}
 use Rattle.words.proofs.Grown.{grown}
 use Rattle.words.proofs.operations.load_words.Statement.{statement}
@@ -14,8 +15,9 @@ returns c =
     let begin = first .before .before in
     let l = begin .empty .result in
     let text = wrote (ascii "load cycle of channel ") (l .bytes) (l .len) _ _ (first .with-text .ensures) in
-    let whole = and-then text (decimal (begin .before .args .channel)) _ _ (c .with-number .ensures .0) in
-    grown l (begin .empty .ensures) whole (omega (arith, c .with-number .ensures .1))
+    let n = begin .before .args .channel in
+    let whole = and-then text (decimal n) _ _ (c .with-number .ensures) in
+    grown l (begin .empty .ensures) whole (omega (arith, decimal-u8 n (omega arith)))
 
 pub load-words-spec : {M : Type 1} → statement M
 load-words-spec =

@@ -7,6 +7,7 @@ use borrow.Author.Needs.{needs}
 use borrow.Author.Tests.{lt-ltb, le-ltb}
 use Rattle.text.specs.Ascii.{ascii}
 use Rattle.text.specs.Number.{decimal}
+use Rattle.text.proofs.Decimal.{decimal-u8}
 use Rattle.text.proofs.Puts.{wrote, and-then}
 use Rattle.line.proofs.Ends.{answer-text}
 use Rattle.words.proofs.Grown.{nothing-more}
@@ -31,10 +32,10 @@ returns-3 c =
     let start = test .before .before .before in
     let a = start .args in
     let text = wrote (ascii " ; channel ") (a .line .bytes) (a .line .len) _ _ (first .with-text .ensures) in
-    let channel = and-then text (decimal (a .port - 0x40)) _ _ (second .with-number .ensures .0) in
+    let channel = and-then text (decimal (a .port - 0x40)) _ _ (second .with-number .ensures) in
     let whole = and-then channel (now (a .behind)) _ _ (c .with-text2 .ensures) in
     rw (le-ltb _ _ (test .before .if1 .left), le-ltb _ _ (test .if2 .left))
-    (answer-text whole (start .pre .1) (simp length-append (omega (arith, start .pre .0, second .with-number .ensures .1))))
+    (answer-text whole (start .pre .1) (simp length-append (omega (arith, start .pre .0, decimal-u8 (a .port - 0x40) (omega arith)))))
 
 pub with-data-port-spec : {M : Type 1} → statement M
 with-data-port-spec =

@@ -4,6 +4,7 @@ use denote.Ref.{now}
 use lib.ListN.{length-append}
 use borrow.Author.Needs.{needs}
 use Rattle.text.specs.Number.{decimal}
+use Rattle.text.proofs.Decimal.{decimal-u32}
 use Rattle.text.proofs.Puts.{wrote, and-then}
 use Rattle.words.proofs.Grown.{grown}
 use Rattle.words.proofs.pieces.said_number.Statement.{statement}
@@ -18,9 +19,9 @@ returns c =
     let l = begin .empty .result in
     let a = start .args in
     let text = wrote (now (a .front)) (l .bytes) (l .len) _ _ (first .with-text .ensures) in
-    let number = and-then text (decimal (a .number)) _ _ (second .with-number .ensures .0) in
+    let number = and-then text (decimal (a .number)) _ _ (second .with-number .ensures) in
     let whole = and-then number (now (a .behind)) _ _ (c .with-text2 .ensures) in
-    grown l (begin .empty .ensures) whole (simp length-append (omega (arith, start .pre, second .with-number .ensures .1)))
+    grown l (begin .empty .ensures) whole (simp length-append (omega (arith, start .pre, decimal-u32 (a .number) (omega arith))))
 
 pub said-number-spec : {M : Type 1} → statement M
 said-number-spec =
