@@ -1,3 +1,4 @@
 pub mod Grown
 pub mod Rows
+pub mod Sentence
 pub mod Short

@@ -12,3 +12,15 @@ namedRoom = 18
 -- room for what a written byte asks for: the longest is ` ; read back count and status of channels 0 1 2`
 abbrev pub askedRoom : ℕ
 askedRoom = 47
+
+-- room for which operation a fault stands in: `operation `, ten digits and `, `
+abbrev pub whichRoom : ℕ
+whichRoom = 22
+
+-- room for where a fault stands: which operation, `byte `, twenty digits and `: `
+abbrev pub whereRoom : ℕ
+whereRoom = 49
+
+-- room for what stands there: `; here it is ` and ten digits, or `; the first is ` and three
+abbrev pub thereRoom : ℕ
+thereRoom = 23

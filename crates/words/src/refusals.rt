@@ -2,10 +2,12 @@
 use crate::pieces::empty;
 use crate::pieces::said;
 use line::Line;
+use refusal::Refusal;
 ghost use mathlib.Core.Path.{_≡_};
 ghost use mathlib.Core.List.{[], _++_};
 ghost use Prim.Native.Nat.{_≤_};
 ghost use lib.ListN.{length};
+ghost use Rattle.refusal.specs.Refusal.{refusalNumber};
 ghost use Rattle.line.specs.Line.{lineOf, lineRoom};
 ghost use Rattle.words.specs.Refusals.{wordsIn, traceRows, addedRows, refusalWords};
 
@@ -51,4 +53,10 @@ pub fn words_of(number: u8) -> Line
         8 => said(b"an event is due and fewer than 2 event bytes are left"),
         _ => trace_words(number),
     }
+}
+
+pub fn refusal_words(refusal: Refusal) -> Line
+    ensures { λ r. ⌜ (r ≡ lineOf (refusalWords (refusalNumber refusal))) × (length (refusalWords (refusalNumber refusal)) ≤ lineRoom) ⌝ }
+{
+    words_of(refusal.number())
 }
