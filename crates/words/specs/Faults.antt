@@ -71,7 +71,7 @@ ofNumber number = eqb number 10 || (eqb number 11 || (eqb number 17 || (eqb numb
 -- refusal of a trace, nothing is shown
 unfoldable pub thereWords : ℕ → List ℕ → ℕ → List ℕ
 thereWords number trace place =
-    cond (eqb number 9) (ascii "; here it ends")
+    cond (eqb number 9) (ascii "; here the trace ends")
     (cond (eqb number 13) (byteThere (ascii "; the first is ") trace place)
     (cond (ofByte number) (byteThere (ascii "; here it is ") trace place)
     (cond (ofNumber number) (numberThere trace place) [])))

@@ -41,8 +41,8 @@ callRows =
 -- document 01's refusals of a trace. 14 is gone: "14 is no longer given" (02, L8)
 abbrev pub traceRows : List Row
 traceRows =
-    -- "trace ends inside a field or operation"; from L7 on it can end inside a checkpoint's board too
-    row 9 "the trace ends inside a field, an operation or a board" ∷
+    -- "trace ends inside a field or operation", or before it; from L7 on it can be a checkpoint's board too
+    row 9 "a field, an operation or a board is not wholly there" ∷
     -- "settings count not 2"
     row 10 "the settings count is not 2" ∷
     -- "operation count above 4,096"

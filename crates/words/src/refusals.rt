@@ -30,7 +30,7 @@ fn trace_words(number: u8) -> Line
     ensures { λ r. ⌜ r ≡ lineOf (wordsIn (traceRows ++ addedRows) number []) ⌝ }
 {
     match number {
-        9 => said(b"the trace ends inside a field, an operation or a board"),
+        9 => said(b"a field, an operation or a board is not wholly there"),
         10 => said(b"the settings count is not 2"),
         11 => said(b"there are more than 4096 operations"),
         12 => said(b"the operation code is not 1 to 9"),

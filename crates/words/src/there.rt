@@ -64,7 +64,7 @@ pub(crate) fn there_words(number: u8, trace: &[u8], place: usize) -> Line
     ensures { λ r. ⌜ (r ≡ lineOf (thereWords number (now (trace .entry)) place)) × (length (thereWords number (now (trace .entry)) place) ≤ thereRoom) ⌝ }
 {
     if number == 9 {
-        return said(b"; here it ends");
+        return said(b"; here the trace ends");
     }
     if number == 13 {
         return byte_there(b"; the first is ", trace, place);
