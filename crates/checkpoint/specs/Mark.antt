@@ -6,7 +6,7 @@ use Rattle.refusal.specs.Reply.{refused}
 use Rattle.trace.specs.Judgement.{Judgement, refusedBy, sound, andThen}
 use Rattle.trace.specs.Operation.{placeOf}
 use Rattle.trace.specs.Trace.{Trace, readTrace}
-use Rattle.runner.specs.Lent.{Replaying, statusOf, inRoom}
+use Rattle.runner.specs.Lent.{Replaying, faultStatus, inRoom}
 use Rattle.checkpoint.specs.Boards.{size, sectionOf}
 
 -- the bytes up to the last operation, and then the section
@@ -18,7 +18,7 @@ mark bytes = andThen (readTrace bytes) (λ t. sound (markedAs bytes t))
 
 -- docs/ENCODING.md, `pit_mark`: into lent bytes of any length
 abbrev pub markJudged : Judgement (List ℕ) → List ℕ → Replaying
-markJudged (refusedBy f) bytes = record { reply = refused (statusOf (f .number) (f .within)); bytes = bytes }
+markJudged (refusedBy f) bytes = record { reply = refused (faultStatus (f .number) (f .within)); bytes = bytes }
 markJudged (sound marked) bytes = inRoom (length marked) marked bytes
 
 unfoldable pub markInto : List ℕ → List ℕ → Replaying

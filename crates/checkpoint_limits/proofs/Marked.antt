@@ -1,20 +1,22 @@
--- What `mark_into` answers, as the place behind the marked trace.
-use Prim.Native.Nat.{ℕ, _-_, _≤_}
-use mathlib.Core.Path.{_≡_, sym, ap, _∙_}
+-- A trace with its checkpoints, made of one without.
+use Prim.Native.Nat.{ℕ}
+use mathlib.Core.Path.{_≡_, ap, _∙_}
 use mathlib.Core.List.{List}
-use native.Mathlib.Omega.{arith}
-use lib.ListN.{length, take}
-use borrow.Author.Tests.{le-ltb}
-use Rattle.text.specs.Put.{answered}
+use lib.ListN.{take}
+use Rattle.text.specs.Put.{Put, answered}
 use Rattle.runner.specs.declared.lending.Replayed.{Replayed}
 use Rattle.runner.specs.Lent.{replyIn, replayed}
 use Rattle.checkpoint.specs.Mark.{markInto}
-use Rattle.checkpoint_limits.specs.Made.{endWritten, endAndBytes, markedFirst}
+use Rattle.checkpoint_limits.specs.Asked.{endWritten}
+use Rattle.checkpoint_limits.specs.Made.{blank, plainFor, endAndBytes, markedOf, markedFor}
 
-pub marked-made : (plain : List ℕ) (end : ℕ) (bytes : List ℕ) → end ≤ length plain → (r got : Replayed) (last : List ℕ) → r ≡ got
-    → replayed r last ≡ markInto (take (end - 0) plain) bytes → answered (endWritten (replyIn got)) last ≡ markedFirst plain end bytes
-unfolding markedFirst
-marked-made plain end bytes fits r got last is e =
-    let whole : end - 0 ≡ end = omega arith in
-    rw (le-ltb (length plain) end fits)
-    (ap (λ (x : Replayed). answered (endWritten (replyIn x)) last) (sym is) ∙ ap endAndBytes e ∙ ap (λ (n : ℕ). endAndBytes (markInto (take n plain) bytes)) whole)
+pub marked-made : (source bytes : List ℕ) (operations end n : ℕ) (empty plain part last : List ℕ) (r : Replayed)
+    → empty ≡ blank → answered end plain ≡ plainFor source operations empty → part ≡ take end plain → replayed r last ≡ markInto part bytes
+    → n ≡ endWritten (replyIn r) → answered n last ≡ markedFor source operations bytes
+unfolding markedFor
+marked-made source bytes operations end n empty plain part last r starts made cut e is =
+    ap (λ (k : ℕ). answered k last) is
+    ∙ ap endAndBytes e
+    ∙ ap (λ (t : List ℕ). endAndBytes (markInto t bytes)) cut
+    ∙ ap (λ (p : Put). markedOf p bytes) made
+    ∙ ap (λ (l : List ℕ). markedOf (plainFor source operations l) bytes) starts

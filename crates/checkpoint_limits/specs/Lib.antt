@@ -1,2 +1,2 @@
-pub mod Made
 pub mod Asked
+pub mod Made

@@ -1,70 +1,62 @@
 // A marked trace spoilt at each place, one at a time: every prefix of it by every reader, which is to be refused with 9 at its length, and every byte of a checkpoint
-// changed, of which the full check is to say 18 at the checkpoint's first byte. How many are refused so, and what is said of the others.
-use crate::lines::LINE;
+// changed, of which the full check is to say 18 at the checkpoint's first byte. How many are refused so, and what is said of the other prefixes.
+use crate::lines::first;
 use crate::lines::say;
+use crate::lines::say_count;
 use crate::lines::say_number;
-use crate::making::ROOM;
 use crate::making::byte_at;
-use crate::making::place_in;
 use crate::making::put_byte;
 use crate::making::put_marked;
-use crate::making::put_plain;
 use crate::readers::Reader;
 use crate::readers::ask;
+use crate::readers::refused_as;
 use crate::readers::show;
-use runner::lending::Replayed;
-ghost use Prim.Native.Nat.{_≤_};
+use crate::readers::written;
+use line::LINE_ROOM;
+use refusal::Refusal;
+use trace::Fault;
+ghost use Prim.Native.Nat.{_<_};
 
-// Whether the first bytes are the line of a fault.
-fn is_fault(out: &[u8], n: usize, number: u64, place: usize) -> bool {
-    let mut line = [0u8; LINE];
-    let mut at = text::put(&mut line, 0, b"trace refused ");
-    at = text::put_decimal(&mut line, at, number);
-    at = text::put(&mut line, at, b" at ");
-    at = text::put_decimal(&mut line, at, place as u64);
-    at = text::put(&mut line, at, b"\n");
-    if line.len() < at {
-        return false;
-    }
-    if out.len() < n {
-        return false;
-    }
-    check::same(&out[0..n], &line[0..at])
+// Where the first checkpoint of 256 operations begins, and the second of 600.
+const FIRST_OF_256: usize = 16 + 6 * 256 + 4;
+
+const SECOND_OF_600: usize = 16 + 6 * 600 + 4 + 111;
+
+// Whether a text is the one line of a fault.
+fn is_fault(text: &[u8], refusal: Refusal, place: usize) -> bool {
+    let line = line::fault_line(Fault { refusal, place });
+    let bytes = line.bytes;
+    check::same(text, first(&bytes, line.len))
 }
 
 // A line is lent and no more, so of a sound trace a replay says nothing. The reader that marks tells no place.
 fn ends_early(reader: Reader, prefix: &[u8]) -> bool {
-    let mut out = [0u8; LINE];
+    let mut out = [0u8; LINE_ROOM];
     let replayed = ask(reader, prefix, &mut out);
-    match replayed {
-        Replayed::Written(n) => is_fault(&out, n, 9, prefix.len()),
-        Replayed::Refused(refusal) => refusal.number() == 9,
-        Replayed::Short => false,
+    if refused_as(replayed) == 9 {
+        return true;
     }
-}
-
-// 1 where they are refused so; else what is said of them is shown.
-fn early(reader: Reader, prefix: &[u8]) -> usize
-    ensures { λ r. ⌜ r ≤ 1 ⌝ }
-{
-    if ends_early(reader, prefix) {
-        return 1;
-    }
-    say_number(b"", prefix.len() as u64);
-    say(b" bytes");
-    show(reader, prefix);
-    0
+    is_fault(
+        first(&out, written(replayed)),
+        Refusal::TraceEnds,
+        prefix.len(),
+    )
 }
 
 fn show_each(reader: Reader, trace: &[u8]) {
     let mut number = 0;
     let mut n = 0;
     while n <= trace.len() {
-        number += early(reader, &trace[0..n]);
+        let prefix = &trace[..n];
         n += 1;
+        if ends_early(reader, prefix) {
+            number += 1;
+        } else {
+            say_count(prefix.len(), b" bytes");
+            show(reader, prefix);
+        }
     }
-    say_number(b"", number as u64);
-    say(b" prefixes refused 9 at their length\n");
+    say_count(number, b" prefixes refused 9 at their length\n");
 }
 
 pub(crate) fn show_prefixes(marked: &[u8]) {
@@ -75,69 +67,48 @@ pub(crate) fn show_prefixes(marked: &[u8]) {
     show_each(Reader::Mark, marked);
 }
 
-fn is_seen(trace: &[u8], length: usize, first: usize) -> bool {
-    if trace.len() < length {
-        return false;
-    }
-    let mut out = [0u8; LINE];
-    let checked = checkpoint::check_into(&trace[0..length], &mut out);
-    let Replayed::Written(n) = checked else {
-        return false;
-    };
-    is_fault(&out, n, 18, first)
+// Whether the check sees so much added to one byte of a checkpoint.
+fn is_seen(marked: &[u8], checkpoint: usize, place: usize, more: u8) -> bool {
+    let mut trace = [0u8; 3842];
+    let length = text::put(&mut trace, 0, marked);
+    put_byte(
+        &mut trace,
+        place,
+        std::num::wrapping_add_u8(byte_at(marked, place), more),
+    );
+    let mut out = [0u8; LINE_ROOM];
+    let checked = checkpoint::check_into(first(&trace, length), &mut out);
+    is_fault(
+        first(&out, written(checked)),
+        Refusal::CheckpointWrong,
+        checkpoint,
+    )
 }
 
-// 1 where the check sees the byte at a place; else it is shown.
-fn seen_at(trace: &[u8], length: usize, first: usize, place: usize, byte: u8) -> u32
-    ensures { λ r. ⌜ r ≤ 1 ⌝ }
+// Each byte of a checkpoint is changed to so many other values.
+fn every_byte(marked: &[u8], checkpoint: usize, values: u8)
+    requires { ⌜ checkpoint < 26373 ⌝ }
 {
-    if is_seen(trace, length, first) {
-        return 1;
-    }
-    say_number(b"not seen: byte ", place as u64);
-    say_number(b" changed to ", byte as u64);
-    say(b"\n");
-    0
-}
-
-// One more than the byte, and so on. How many of so many values are seen.
-fn values_at(trace: &mut [u8], length: usize, first: usize, place: usize, values: u8) -> u32
-    ensures { λ r. ⌜ r ≤ values ⌝ }
-{
-    let own = byte_at(trace, place);
-    let mut byte = own;
-    let mut seen: u32 = 0;
-    let mut turns: u8 = 0;
-    while turns < values {
-        byte = std::num::wrapping_add_u8(byte, 1);
-        put_byte(trace, place, byte);
-        seen += seen_at(trace, length, first, place, byte);
-        turns += 1;
-    }
-    put_byte(trace, place, own);
-    seen
-}
-
-fn every_byte(trace: &mut [u8], length: usize, operations: u32, k: u32, values: u8) {
-    let first = place_in(operations, k, 0);
-    let mut seen: u32 = 0;
-    let mut i: u8 = 0;
-    while i < 111 {
-        seen += values_at(trace, length, first, place_in(operations, k, i), values);
+    let number = 111 * (values as usize);
+    let mut seen = 0;
+    let mut i = 0;
+    while i < number {
+        let place = checkpoint + i % 111;
+        let more = (i / 111 + 1) as u8;
         i += 1;
+        if is_seen(marked, checkpoint, place, more) {
+            seen += 1;
+        }
     }
-    say_number(b"checkpoint at ", first as u64);
-    say_number(b": ", seen as u64);
-    say(b" changes seen\n");
+    say_number(b"checkpoint at ", checkpoint);
+    say(b": ");
+    say_count(seen, b" changes seen\n");
 }
 
 // Of the checkpoint of 256 operations every byte is changed to every other value, of checkpoint 1 of the trace itself to one.
 pub(crate) fn show_changes(marked: &[u8]) {
-    let mut plain = [0u8; ROOM];
-    let end = put_plain(marked, 256, &mut plain);
-    let mut trace = [0u8; ROOM];
-    let mut length = put_marked(&plain, end, &mut trace);
-    every_byte(&mut trace, length, 256, 0, 255);
-    length = text::put(&mut trace, 0, marked);
-    every_byte(&mut trace, length, 600, 1, 1);
+    let mut trace = [0u8; 1667];
+    let length = put_marked(marked, 256, &mut trace);
+    every_byte(first(&trace, length), FIRST_OF_256, 255);
+    every_byte(marked, SECOND_OF_600, 1);
 }

@@ -12,18 +12,18 @@ mod wrong;
 
 use libc::STDIN_FILENO;
 
-fn show_all(marked: &[u8]) {
-    each_place::show_prefixes(marked);
-    each_place::show_changes(marked);
-    sizes::show_all(marked);
-    form::show_all(marked);
-    wrong::show_all(marked);
-    older::show_all(marked);
-    rooms::show_all(marked);
-}
-
 fn main() {
     let mut input = io::buffer();
     let length = io::read_full(STDIN_FILENO, &mut input);
-    show_all(&input[..length]);
+    let marked = &input[..length];
+    each_place::show_prefixes(marked);
+    each_place::show_changes(marked);
+    sizes::show_all(marked);
+    form::show_below_256(marked);
+    form::show_from_256(marked);
+    wrong::show_changed(marked);
+    wrong::show_missing(marked);
+    wrong::show_order(marked);
+    older::show_all(marked);
+    rooms::show_all(marked);
 }

@@ -1,14 +1,22 @@
 // Traces made of the operations of another, and bytes changed in them.
-use runner::lending::Replayed;
+use crate::lines::first;
+use crate::readers::written;
 ghost use mathlib.Core.Path.{_≡_};
 ghost use Prim.Native.Nat.{_+_, _-_, _*_};
 ghost use lib.ListN.{getD, set};
 ghost use Rattle.numbers.specs.Little.{fourBytes};
 ghost use Rattle.text.specs.Put.{put, answered};
-ghost use Rattle.checkpoint_limits.specs.Made.{overAndOver, plainFor, markedFirst};
+ghost use Rattle.checkpoint_limits.specs.Made.{blank, overAndOver, plainFor, markedFor};
 
 // The longest trace, and a byte more.
-pub(crate) const ROOM: usize = trace::LONGEST_TRACE + 1;
+const ROOM: usize = trace::LONGEST_TRACE + 1;
+
+// An array from a call, which tells its length: of one made in place the prover counts the bytes.
+pub(crate) fn blank() -> [u8; ROOM]
+    ensures { λ r. ⌜ r ≡ blank ⌝ }
+{
+    [0; ROOM]
+}
 
 pub(crate) fn byte_at(bytes: &[u8], place: usize) -> u8
     ensures { λ r. ⌜ r ≡ getD (now (bytes .entry)) place 0 ⌝ }
@@ -41,13 +49,6 @@ pub(crate) fn end_of(operations: u32) -> usize
     16 + 6 * (operations as usize)
 }
 
-// Where a byte of a checkpoint stands.
-pub(crate) fn place_in(operations: u32, k: u32, byte: u8) -> usize
-    ensures { λ r. ⌜ r ≡ 16 + 6 * operations + 4 + 111 * k + byte ⌝ }
-{
-    16 + 6 * (operations as usize) + 4 + 111 * (k as usize) + (byte as usize)
-}
-
 // The bytes of the source's 600 operations, over and over.
 fn put_operations(source: &[u8], end: usize, out: &mut [u8])
     ensures { λ _. ⌜ now (out .exit) ≡ overAndOver (now (source .entry)) 16 (end - 16) (now (out .entry)) ⌝ }
@@ -70,17 +71,11 @@ pub(crate) fn put_plain(source: &[u8], operations: u32, out: &mut [u8]) -> usize
     end
 }
 
-// So many bytes of a trace with their checkpoints, and where it ends: 0 where there is none.
-pub(crate) fn put_marked(plain: &[u8], end: usize, out: &mut [u8]) -> usize
-    ensures { λ r. ⌜ answered r (now (out .exit)) ≡ markedFirst (now (plain .entry)) end (now (out .entry)) ⌝ }
+// The same with its checkpoints.
+pub(crate) fn put_marked(source: &[u8], operations: u32, out: &mut [u8]) -> usize
+    ensures { λ r. ⌜ answered r (now (out .exit)) ≡ markedFor (now (source .entry)) operations (now (out .entry)) ⌝ }
 {
-    if plain.len() < end {
-        return 0;
-    }
-    let marked = checkpoint::mark_into(&plain[0..end], out);
-    match marked {
-        Replayed::Written(n) => n,
-        Replayed::Refused(_) => 0,
-        Replayed::Short => 0,
-    }
+    let mut plain = blank();
+    let end = put_plain(source, operations, &mut plain);
+    written(checkpoint::mark_into(first(&plain, end), out))
 }

@@ -2,40 +2,26 @@
 // the operations. Any byte there was refused with 13, at the first of them; head and operations were read as they are today.
 use crate::lines::say;
 use crate::lines::say_number;
-use crate::making::ROOM;
 use crate::making::end_of;
-use crate::making::put_number;
-use crate::making::put_plain;
-use trace::head::Judged;
+use crate::making::put_marked;
 
-fn older(trace: &[u8]) {
-    let read = trace::read_head(trace);
-    let Judged::Sound(head) = read else {
-        say(b"refused in its head\n");
-        return;
-    };
-    let end = end_of(head.operations);
-    if end < trace.len() {
-        say_number(b"trace refused 13 at ", end as u64);
-        say(b"\n");
-    } else {
-        say(b"sound\n");
-    }
-}
-
-fn show(name: &[u8], trace: &[u8], length: usize) {
+// A trace of so many operations, and of so many bytes in all.
+fn older(name: &[u8], operations: u32, length: usize) {
     say(name);
-    if length <= trace.len() {
-        older(&trace[0..length]);
+    let end = end_of(operations);
+    if length <= end {
+        say(b"sound\n");
+        return;
     }
+    say_number(b"trace refused 13 at ", end);
+    say(b"\n");
 }
 
 pub(crate) fn show_all(marked: &[u8]) {
     say(b"an older program, by a model of its rule\n");
-    show(b"  marked: ", marked, marked.len());
-    show(b"  without section three: ", marked, end_of(600));
-    let mut trace = [0u8; ROOM];
-    let end = put_plain(marked, 0, &mut trace);
-    put_number(&mut trace, end, 0);
-    show(b"  0 operations, an empty section: ", &trace, 20);
+    older(b"  marked: ", 600, marked.len());
+    older(b"  without section three: ", 600, end_of(600));
+    let mut trace = [0u8; 20];
+    let length = put_marked(marked, 0, &mut trace);
+    older(b"  0 operations, an empty section: ", 0, length);
 }

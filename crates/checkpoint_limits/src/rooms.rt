@@ -1,63 +1,56 @@
 // Lent bytes: one fewer than is asked for are short, and stay as they were; so do the bytes behind what is written.
-use crate::lines::LINE;
+use crate::lines::first;
 use crate::lines::say;
 use crate::lines::say_number;
 use crate::readers::Reader;
-use crate::readers::TEXT;
 use crate::readers::ask;
-use runner::lending::Replayed;
+use crate::readers::say_outcome;
+use crate::readers::say_reader;
+use crate::readers::written;
+use line::LINE_ROOM;
 
 // What stands in the lent bytes before. No text has it.
 const FILL: u8 = 170;
 
-fn say_rest(lent: &[u8], n: usize) {
-    let filled = [FILL; TEXT];
-    if lent.len() != TEXT {
+// No more are lent: what a replay of 600 operations asks for.
+const MOST: usize = LINE_ROOM * 602;
+
+fn filled() -> [u8; MOST] {
+    [FILL; MOST]
+}
+
+fn stays_from(lent: &[u8; MOST], n: usize) -> bool {
+    let mut i = n;
+    while i < MOST {
+        if lent[i] != FILL {
+            return false;
+        }
+        i += 1;
+    }
+    true
+}
+
+// The first bytes of what is lent go to the reader.
+fn lend(reader: Reader, trace: &[u8], room: usize) {
+    if MOST < room {
         return;
     }
-    if TEXT < n {
-        return;
-    }
-    if check::same(&lent[n..TEXT], &filled[n..TEXT]) {
+    say_number(b"  room ", room);
+    say(b": ");
+    let mut lent = filled();
+    let replayed = ask(reader, trace, &mut lent[..room]);
+    say_outcome(replayed);
+    if stays_from(&lent, written(replayed)) {
         say(b", the rest stays\n");
     } else {
         say(b", the rest CHANGED\n");
     }
 }
 
-// The first bytes of what is lent go to the reader.
-fn say_outcome(reader: Reader, trace: &[u8], lent: &mut [u8], room: usize) {
-    if lent.len() < room {
-        return;
-    }
-    let replayed = ask(reader, trace, &mut lent[0..room]);
-    match replayed {
-        Replayed::Written(n) => {
-            say_number(b"", n as u64);
-            say(b" bytes");
-            say_rest(lent, n);
-        }
-        Replayed::Refused(refusal) => {
-            say_number(b"refused ", refusal.number() as u64);
-            say_rest(lent, 0);
-        }
-        Replayed::Short => {
-            say(b"short");
-            say_rest(lent, 0);
-        }
-    }
-}
-
-fn lend(reader: Reader, trace: &[u8], room: usize) {
-    let mut lent = [FILL; TEXT];
-    say_number(b"  room ", room as u64);
-    say(b": ");
-    say_outcome(reader, trace, &mut lent, room);
-}
-
 // A byte less than is asked for, and as many.
 fn pair(name: &[u8], reader: Reader, trace: &[u8], asked: usize) {
     say(name);
+    say_reader(reader);
     say(b"\n");
     if 0 < asked {
         lend(reader, trace, asked - 1);
@@ -65,22 +58,19 @@ fn pair(name: &[u8], reader: Reader, trace: &[u8], asked: usize) {
     lend(reader, trace, asked);
 }
 
-fn refused(trace: &[u8]) {
-    pair(b"a refused trace: replay", Reader::Replay, trace, LINE);
-    pair(b"a refused trace: check", Reader::Check, trace, LINE);
-    pair(b"a refused trace: from 0", Reader::From(0), trace, LINE);
-    pair(b"a refused trace: mark", Reader::Mark, trace, 0);
-}
-
 pub(crate) fn show_all(marked: &[u8]) {
-    pair(b"replay", Reader::Replay, marked, LINE * 602);
-    pair(b"check", Reader::Check, marked, LINE);
-    pair(b"from 0", Reader::From(0), marked, LINE * 345);
-    pair(b"from 1", Reader::From(1), marked, LINE * 89);
-    pair(b"from 2", Reader::From(2), marked, LINE);
-    pair(b"mark", Reader::Mark, marked, 3842);
+    let name: &[u8] = b"";
+    pair(name, Reader::Replay, marked, MOST);
+    pair(name, Reader::Check, marked, LINE_ROOM);
+    pair(name, Reader::From(0), marked, LINE_ROOM * 345);
+    pair(name, Reader::From(1), marked, LINE_ROOM * 89);
+    pair(name, Reader::From(2), marked, LINE_ROOM);
+    pair(name, Reader::Mark, marked, 3842);
     // A byte of the count, and no more.
-    if 3617 <= marked.len() {
-        refused(&marked[0..3617]);
-    }
+    let refused = first(marked, 3617);
+    let name: &[u8] = b"a refused trace: ";
+    pair(name, Reader::Replay, refused, LINE_ROOM);
+    pair(name, Reader::Check, refused, LINE_ROOM);
+    pair(name, Reader::From(0), refused, LINE_ROOM);
+    pair(name, Reader::Mark, refused, 0);
 }

@@ -17,7 +17,7 @@ use Rattle.trace.proofs.Named.{named-inside}
 use Rattle.line.specs.Line.{lineRoom}
 use Rattle.runner.specs.declared.Form.the-variants.{Answers}
 use Rattle.runner.specs.Printed.{roomOf, printed}
-use Rattle.runner.specs.Lent.{Replaying, statusOf, inRoom, roomFor, answersOf, answersJudged, answersInto, replayInto}
+use Rattle.runner.specs.Lent.{Replaying, faultStatus, inRoom, roomFor, answersOf, answersJudged, answersInto, replayInto}
 use Rattle.checkpoint.specs.Check.{check, checkedText, checkInto}
 use Rattle.checkpoint.specs.From.{fromJudged, replayFromInto}
 use Rattle.checkpoint.specs.Mark.{mark, markedAs, markJudged, markInto}
@@ -29,7 +29,7 @@ room-fits : (room : ℕ) (text bytes : List ℕ) → Fits (inRoom room text byte
 room-fits room text bytes = pick-holds Fits (ltb (length bytes) room) _ _ (omega arith) (omega arith)
 
 status-fits : (trace : List ℕ) (operations number place : ℕ) (within : Within) → NamedIn trace operations place within → number ≤ 21
-    → statusOf number within < 4294967296
+    → faultStatus number within < 4294967296
 status-fits trace operations number place Outside named few = omega arith
 status-fits trace operations number place (InOperation index) named few = omega (arith, named .0, named .1)
 

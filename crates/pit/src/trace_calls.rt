@@ -10,16 +10,16 @@ ghost use Prim.Native.Nat.{_<_};
 ghost use mathlib.Core.Path.{_≡_};
 ghost use Rattle.refusal.specs.Reply.{numberIn};
 ghost use Rattle.refusal.specs.Refusal.{refusalNumber};
-ghost use Rattle.runner.specs.Lent.{statusOf, replyIn, replayInto, answersInto};
+ghost use Rattle.runner.specs.Lent.{faultStatus, replyIn, replayInto, answersInto};
 ghost use Rattle.checkpoint.specs.Check.{checkInto};
 ghost use Rattle.checkpoint.specs.From.{replayFromInto};
 ghost use Rattle.checkpoint.specs.Mark.{markInto};
 ghost use Rattle.pit.specs.Trace.{replyAfter, replayCalled, replayCall};
 
 // The refusal's number; inside an operation, 256 times the index more, counted from 1.
-fn status_of(refusal: Refusal, within: Within) -> u32
-    requires { ⌜ statusOf (refusalNumber refusal) within < 4294967296 ⌝ }
-    ensures { λ r. ⌜ r ≡ statusOf (refusalNumber refusal) within ⌝ }
+fn fault_status(refusal: Refusal, within: Within) -> u32
+    requires { ⌜ faultStatus (refusalNumber refusal) within < 4294967296 ⌝ }
+    ensures { λ r. ⌜ r ≡ faultStatus (refusalNumber refusal) within ⌝ }
 {
     let number = refusal.number() as u32;
     match within {
@@ -39,7 +39,7 @@ fn settle(replayed: Replayed, answer: &mut [u8]) -> u32
             encoding::put_front(answer, &answered);
             0
         }
-        Replayed::Refused(refusal, within) => status_of(refusal, within),
+        Replayed::Refused(refusal, within) => fault_status(refusal, within),
         Replayed::Short => SHORT_OUT,
     }
 }

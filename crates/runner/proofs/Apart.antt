@@ -13,7 +13,7 @@ use Rattle.trace.specs.declared.Within.{Within}
 use Rattle.trace.specs.declared.Within.the-variants.{Outside, InOperation}
 use Rattle.runner.specs.declared.lending.Replayed.{Replayed}
 use Rattle.runner.specs.declared.lending.Replayed.the-variants.{Written, Refused, Short}
-use Rattle.runner.specs.Lent.{indexCounted, statusOf, replyIn}
+use Rattle.runner.specs.Lent.{indexCounted, faultStatus, replyIn}
 
 abbrev withinCounted : ℕ → Within
 withinCounted zero = Outside
@@ -32,8 +32,8 @@ replayed-back (Written n) = refl
 replayed-back (Refused refusal within) =
     let number = refusalNumber refusal in
     let few : number ≤ 100 = ltb-false 100 number (below-101 refusal) in
-    let low : statusOf number within % 256 ≡ number = omega (arith, few) in
-    let high : statusOf number within / 256 ≡ indexCounted within = omega (arith, few) in
+    let low : faultStatus number within % 256 ≡ number = omega (arith, few) in
+    let high : faultStatus number within / 256 ≡ indexCounted within = omega (arith, few) in
     simp (low, high, below-101 refusal, numbered-back refusal, counted-back within)
 replayed-back Short = refl
 

@@ -46,12 +46,12 @@ abbrev pub indexCounted : Within → ℕ
 indexCounted Outside = 0
 indexCounted (InOperation index) = suc index
 
-abbrev pub statusOf : ℕ → Within → ℕ
-statusOf number within = number + 256 * indexCounted within
+abbrev pub faultStatus : ℕ → Within → ℕ
+faultStatus number within = number + 256 * indexCounted within
 
 -- "the trace's refusal, 105"; "16 for each operation"
 abbrev pub answersJudged : Judgement Trace → List ℕ → Replaying
-answersJudged (refusedBy f) bytes = record { reply = refused (statusOf (f .number) (f .within)); bytes = bytes }
+answersJudged (refusedBy f) bytes = record { reply = refused (faultStatus (f .number) (f .within)); bytes = bytes }
 answersJudged (sound t) bytes = inRoom (roomOf Answers * length (t .operations)) (answersOf t) bytes
 
 unfoldable pub answersInto : List ℕ → List ℕ → Replaying
@@ -60,7 +60,7 @@ answersInto trace bytes = answersJudged (readTrace trace) bytes
 -- what the code answers, with the lent bytes at its end
 abbrev pub replyIn : Replayed → Reply ℕ
 replyIn (Written n) = accepted n
-replyIn (Refused refusal within) = refused (statusOf (refusalNumber refusal) within)
+replyIn (Refused refusal within) = refused (faultStatus (refusalNumber refusal) within)
 replyIn Short = refused 105
 
 abbrev pub replayed : Replayed → List ℕ → Replaying

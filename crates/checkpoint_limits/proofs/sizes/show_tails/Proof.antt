@@ -5,10 +5,10 @@ use Rattle.checkpoint_limits.proofs.sizes.show_tails.Statement.{stateme
 use Rattle.checkpoint_limits.proofs.sizes.show_tails.Tie as tie
 
 abbrev Inv-loop : tie.InvT-loop
-Inv-loop marked operations number k₀ k = k ≤ number
+Inv-loop marked from to k₀ t6 k = from ≤ k
 
 abbrev μ-loop : tie.MeasureT-loop
-μ-loop marked operations number k₀ k = number - k
+μ-loop marked from to k₀ t6 k = to - k
 
 pub show-tails-spec : {M : Type 1} → statement M
 show-tails-spec =
@@ -16,6 +16,13 @@ show-tails-spec =
     (tie.spec
     Inv-loop
     μ-loop
+    (λ c. search needs)
+    (λ c. search needs)
+    (λ c. search needs)
+    (λ c κs. search needs)
+    (λ c. search needs)
+    (λ c. search needs)
+    (λ c. search needs)
     (λ c. search needs)
     (λ c κs. search needs)
     (λ c. search needs)

@@ -16,19 +16,19 @@ returns c =
     let written = c .before .before .before .before .before .before .before .replayed .given .1 in
     (simp written, c .before .before .put-front .ensures .1 ∙ ap (λ l. putFront l (now (a .answer))) (c .before .before .before .before .before .board-answer-bytes .ensures) ∙ simp written)
 
-status-of-requires : tie.Need-status-of-requires
-status-of-requires c κs =
+fault-status-requires : tie.Need-fault-status-requires
+fault-status-requires c κs =
     let a = c .before .before .before .before in
     subst (λ (r : Replayed). numberIn (replyIn r) < 4294967296) (c .before .replayed2 .given .1) (a .pre)
 
 returns-2 : tie.Need-returns-2
-returns-2 c = let refused = c .before .before .replayed2 .given .1 in (simp (c .status-of .ensures, refused), simp refused)
+returns-2 c = let refused = c .before .before .replayed2 .given .1 in (simp (c .fault-status .ensures, refused), simp refused)
 
 pub settle-spec : {M : Type 1} → statement M
 settle-spec =
     tie.close
     (tie.spec
-    (λ c. search needs) (λ c κs. search needs) (λ c. search needs) (λ c κs. search needs) (λ c. search needs) status-of-requires
+    (λ c. search needs) (λ c κs. search needs) (λ c. search needs) (λ c κs. search needs) (λ c. search needs) fault-status-requires
     (λ c. search needs) (λ c. search needs) returns
     returns-2
     (λ c. search needs))

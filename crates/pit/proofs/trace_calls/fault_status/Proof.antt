@@ -1,13 +1,13 @@
--- `pit::trace_calls::status_of` meets its contract. Assumes nothing.
+-- `pit::trace_calls::fault_status` meets its contract. Assumes nothing.
 use Prim.Native.Nat.{ℕ, suc, _+_, _*_, _<_}
 use mathlib.Core.Path.{_≡_, subst, sym}
 use native.Mathlib.Omega.{arith}
 use borrow.Author.Needs.{needs}
 use Rattle.refusal.specs.Refusal.{refusalNumber}
 use Rattle.trace.specs.declared.Within.{Within}
-use Rattle.runner.specs.Lent.{statusOf}
-use Rattle.pit.proofs.trace_calls.status_of.Statement.{statement}
-use Rattle.pit.proofs.trace_calls.status_of.Tie as tie
+use Rattle.runner.specs.Lent.{faultStatus}
+use Rattle.pit.proofs.trace_calls.fault_status.Statement.{statement}
+use Rattle.pit.proofs.trace_calls.fault_status.Tie as tie
 
 -- inside an operation
 abbrev In : Type 0
@@ -20,7 +20,7 @@ fits : (c : In) → c .before .before .before .number .result + 256 * suc (index
 fits c =
     let a = c .before .before .before .before in
     let given : refusalNumber (a .args .refusal) + 256 * suc (index c) < 4294967296
-    = subst (λ (w : Within). statusOf (refusalNumber (a .args .refusal)) w < 4294967296) (c .before .within .given .1) (a .pre) in
+    = subst (λ (w : Within). faultStatus (refusalNumber (a .args .refusal)) w < 4294967296) (c .before .within .given .1) (a .pre) in
     omega (arith, given, c .before .before .before .number .ensures)
 
 add-result : tie.Need-add-result
@@ -38,8 +38,8 @@ returns c = rw (c .enum-told .given .1) (rw (← c .before .before .number .ensu
 returns-2 : tie.Need-returns-2
 returns-2 c = rw (c .before .within .given .1) (rw (← c .before .before .before .number .ensures) (omega arith))
 
-pub status-of-spec : {M : Type 1} → statement M
-status-of-spec =
+pub fault-status-spec : {M : Type 1} → statement M
+fault-status-spec =
     tie.close
     (tie.spec
     (λ c κs. search needs) (λ c. search needs) (λ c. search needs) (λ c. search needs) add-result
