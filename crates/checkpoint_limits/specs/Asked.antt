@@ -26,5 +26,5 @@ endWritten (refused _) = 0
 -- the number of the trace's refusal: 0 where there is none
 abbrev pub refusedAs : Replayed → ℕ
 refusedAs (Written _) = 0
-refusedAs (Refused refusal) = refusalNumber refusal
+refusedAs (Refused refusal within) = refusalNumber refusal
 refusedAs Short = 0

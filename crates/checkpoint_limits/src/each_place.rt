@@ -15,6 +15,7 @@ use crate::readers::written;
 use line::LINE_ROOM;
 use refusal::Refusal;
 use trace::Fault;
+use trace::Within;
 ghost use Prim.Native.Nat.{_<_};
 
 // Where the first checkpoint of 256 operations begins, and the second of 600.
@@ -22,9 +23,13 @@ const FIRST_OF_256: usize = 16 + 6 * 256 + 4;
 
 const SECOND_OF_600: usize = 16 + 6 * 600 + 4 + 111;
 
-// Whether a text is the one line of a fault.
+// Whether a text is the one line of a fault outside the operations.
 fn is_fault(text: &[u8], refusal: Refusal, place: usize) -> bool {
-    let line = line::fault_line(Fault { refusal, place });
+    let line = line::fault_line(Fault {
+        refusal,
+        place,
+        within: Within::Outside,
+    });
     let bytes = line.bytes;
     check::same(text, first(&bytes, line.len))
 }
