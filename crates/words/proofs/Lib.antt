@@ -1,3 +1,5 @@
+pub mod Apart
+pub mod Examples
 pub mod Grown
 pub mod Rows
 pub mod Sentence
