@@ -1,5 +1,4 @@
 pub mod Apart
-pub mod Examples
 pub mod Grown
 pub mod Rows
 pub mod Sentence
