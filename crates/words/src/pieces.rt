@@ -4,13 +4,10 @@ use line::LINE_ROOM;
 use line::Line;
 ghost use mathlib.Core.Path.{_≡_};
 ghost use mathlib.Core.Bool.{cond};
-ghost use mathlib.Core.List.{[], _++_};
-ghost use Prim.Native.Nat.{_+_, _≤_};
-ghost use lib.ListN.{length};
+ghost use mathlib.Core.List.{[]};
 ghost use Rattle.text.specs.Number.{decimal, hex};
 ghost use Rattle.text.specs.Put.{put, answered};
-ghost use Rattle.line.specs.Line.{lineOf, lineRoom};
-ghost use Rattle.words.specs.Inner.{numberRoom};
+ghost use Rattle.line.specs.Line.{lineOf};
 
 pub(crate) fn empty() -> Line
     ensures { λ r. ⌜ r ≡ lineOf [] ⌝ }
@@ -61,22 +58,4 @@ pub(crate) fn with_if(line: Line, said: bool, text: &[u8]) -> Line
         return with_text(line, text);
     }
     line
-}
-
-// A text as a line.
-pub(crate) fn said(text: &[u8]) -> Line
-    requires { ⌜ length (now text) ≤ lineRoom ⌝ }
-    ensures { λ r. ⌜ r ≡ lineOf (now (text .entry)) ⌝ }
-{
-    with_text(empty(), text)
-}
-
-// A number as a line, with text in front of it and behind it.
-pub(crate) fn said_number(front: &[u8], number: u32, behind: &[u8]) -> Line
-    requires { ⌜ length (now front) + numberRoom + length (now behind) ≤ lineRoom ⌝ }
-    ensures { λ r. ⌜ (r ≡ lineOf (now (front .entry) ++ decimal number ++ now (behind .entry))) × (length (now (front .entry) ++ decimal number ++ now (behind .entry)) ≤ lineRoom) ⌝ }
-{
-    let mut line = with_text(empty(), front);
-    line = with_number(line, number as u64);
-    with_text(line, behind)
 }

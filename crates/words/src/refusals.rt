@@ -1,6 +1,6 @@
 // The words of a refusal.
 use crate::pieces::empty;
-use crate::pieces::said;
+use crate::said;
 use line::Line;
 use refusal::Refusal;
 ghost use mathlib.Core.Path.{_≡_};

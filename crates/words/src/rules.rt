@@ -1,6 +1,6 @@
 // The rule of a trace that is broken. Three refusals stand for several rules each, which the operation's code tells apart.
-use crate::pieces::said;
 use crate::refusals::words_of;
+use crate::said;
 use line::Line;
 use trace::Within;
 use trace::operation::place_of;

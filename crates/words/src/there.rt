@@ -1,8 +1,8 @@
 // What stands at a place of a trace.
 use crate::pieces::empty;
-use crate::pieces::said;
 use crate::pieces::with_number;
 use crate::pieces::with_text;
+use crate::said;
 use line::Line;
 use numbers::number_at;
 ghost use mathlib.Core.Path.{_≡_};

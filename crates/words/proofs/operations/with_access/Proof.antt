@@ -1,7 +1,7 @@
--- `words::command::with_access` meets its contract. Assumes nothing.
+-- `words::operations::with_access` meets its contract. Assumes nothing.
 use borrow.Author.Needs.{needs}
-use Rattle.words.proofs.command.with_access.Statement.{statement}
-use Rattle.words.proofs.command.with_access.Tie as tie
+use Rattle.words.proofs.operations.with_access.Statement.{statement}
+use Rattle.words.proofs.operations.with_access.Tie as tie
 
 returns : tie.Need-returns
 returns c = rw (c .before .before .enum-told .given .1) (c .with-text .ensures)

@@ -1,10 +1,10 @@
--- `words::pieces::said` meets its contract. Assumes nothing.
+-- `words::said` meets its contract. Assumes nothing.
 use denote.Ref.{now}
 use borrow.Author.Needs.{needs}
 use Rattle.text.proofs.Puts.{wrote}
 use Rattle.words.proofs.Grown.{grown}
-use Rattle.words.proofs.pieces.said.Statement.{statement}
-use Rattle.words.proofs.pieces.said.Tie as tie
+use Rattle.words.proofs.said.Statement.{statement}
+use Rattle.words.proofs.said.Tie as tie
 
 returns : tie.Need-returns
 returns c =

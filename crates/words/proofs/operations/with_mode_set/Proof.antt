@@ -1,4 +1,4 @@
--- `words::command::with_mode_set` meets its contract. Assumes nothing.
+-- `words::operations::with_mode_set` meets its contract. Assumes nothing.
 use native.Mathlib.Omega.{arith}
 use lib.ListN.{length-append}
 use borrow.Author.Needs.{needs}
@@ -9,8 +9,8 @@ use Rattle.text.proofs.Puts.{wrote, and-then}
 use Rattle.line.proofs.Ends.{answer-text}
 use Rattle.words.specs.Commands.{accessWords, radixWords}
 use Rattle.words.proofs.Short.{either-short, access-short}
-use Rattle.words.proofs.command.with_mode_set.Statement.{statement}
-use Rattle.words.proofs.command.with_mode_set.Tie as tie
+use Rattle.words.proofs.operations.with_mode_set.Statement.{statement}
+use Rattle.words.proofs.operations.with_mode_set.Tie as tie
 
 returns : tie.Need-returns
 returns c =

@@ -1,8 +1,8 @@
--- `words::command::with_command` meets its contract. Assumes nothing.
+-- `words::operations::with_command` meets its contract. Assumes nothing.
 use native.Mathlib.Omega.{arith}
 use borrow.Author.Needs.{needs}
-use Rattle.words.proofs.command.with_command.Statement.{statement}
-use Rattle.words.proofs.command.with_command.Tie as tie
+use Rattle.words.proofs.operations.with_command.Statement.{statement}
+use Rattle.words.proofs.operations.with_command.Tie as tie
 
 returns : tie.Need-returns
 returns c = rw (c .before .before .enum-told .given .1) (c .with-text .ensures, omega arith)

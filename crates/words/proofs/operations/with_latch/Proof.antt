@@ -1,4 +1,4 @@
--- `words::command::with_latch` meets its contract. Assumes nothing.
+-- `words::operations::with_latch` meets its contract. Assumes nothing.
 use native.Mathlib.Omega.{arith}
 use lib.ListN.{length-append}
 use borrow.Author.Needs.{needs}
@@ -7,8 +7,8 @@ use Rattle.text.specs.Number.{decimal}
 use Rattle.text.proofs.Decimal.{decimal-u8}
 use Rattle.text.proofs.Puts.{wrote, and-then}
 use Rattle.line.proofs.Ends.{answer-text}
-use Rattle.words.proofs.command.with_latch.Statement.{statement}
-use Rattle.words.proofs.command.with_latch.Tie as tie
+use Rattle.words.proofs.operations.with_latch.Statement.{statement}
+use Rattle.words.proofs.operations.with_latch.Tie as tie
 
 returns : tie.Need-returns
 returns c =

@@ -1,7 +1,7 @@
--- `words::command::with_latched` meets its contract. Assumes nothing.
+-- `words::operations::with_latched` meets its contract. Assumes nothing.
 use borrow.Author.Needs.{needs}
-use Rattle.words.proofs.command.with_latched.Statement.{statement}
-use Rattle.words.proofs.command.with_latched.Tie as tie
+use Rattle.words.proofs.operations.with_latched.Statement.{statement}
+use Rattle.words.proofs.operations.with_latched.Tie as tie
 
 returns : tie.Need-returns
 returns c = rw (c .before .before .before .if1 .taken) (c .with-either .ensures)

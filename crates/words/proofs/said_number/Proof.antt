@@ -1,4 +1,4 @@
--- `words::pieces::said_number` meets its contract. Assumes nothing.
+-- `words::said_number` meets its contract. Assumes nothing.
 use native.Mathlib.Omega.{arith}
 use denote.Ref.{now}
 use lib.ListN.{length-append}
@@ -7,8 +7,8 @@ use Rattle.text.specs.Number.{decimal}
 use Rattle.text.proofs.Decimal.{decimal-u32}
 use Rattle.text.proofs.Puts.{wrote, and-then}
 use Rattle.words.proofs.Grown.{grown}
-use Rattle.words.proofs.pieces.said_number.Statement.{statement}
-use Rattle.words.proofs.pieces.said_number.Tie as tie
+use Rattle.words.proofs.said_number.Statement.{statement}
+use Rattle.words.proofs.said_number.Tie as tie
 
 returns : tie.Need-returns
 returns c =

@@ -1,4 +1,4 @@
--- `words::command::with_read_back` meets its contract. Assumes nothing.
+-- `words::operations::with_read_back` meets its contract. Assumes nothing.
 use native.Mathlib.Omega.{arith}
 use lib.ListN.{length-append}
 use borrow.Author.Needs.{needs}
@@ -8,8 +8,8 @@ use Rattle.line.proofs.Ends.{answer-text, room-behind}
 use Rattle.words.specs.Inner.{namedRoom}
 use Rattle.words.specs.Commands.{latchedWords, namedWords}
 use Rattle.words.proofs.Short.{latched-short}
-use Rattle.words.proofs.command.with_read_back.Statement.{statement}
-use Rattle.words.proofs.command.with_read_back.Tie as tie
+use Rattle.words.proofs.operations.with_read_back.Statement.{statement}
+use Rattle.words.proofs.operations.with_read_back.Tie as tie
 
 with-named-requires : tie.Need-with-named-requires
 with-named-requires c κs =

@@ -1,4 +1,4 @@
--- `words::command::with_named` meets its contract. Assumes nothing.
+-- `words::operations::with_named` meets its contract. Assumes nothing.
 use mathlib.Core.Bool.{true, false}
 use mathlib.Core.Path.{_≡_, sym, _∙_}
 use native.Mathlib.Omega.{arith}
@@ -10,8 +10,8 @@ use Rattle.text.proofs.Puts.{wrote, and-then}
 use Rattle.line.proofs.Ends.{answer-text}
 use Rattle.words.specs.Commands.{channelIf}
 use Rattle.words.proofs.Short.{if-short}
-use Rattle.words.proofs.command.with_named.Statement.{statement}
-use Rattle.words.proofs.command.with_named.Tie as tie
+use Rattle.words.proofs.operations.with_named.Statement.{statement}
+use Rattle.words.proofs.operations.with_named.Tie as tie
 
 returns : tie.Need-returns
 returns c =
