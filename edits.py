@@ -1,7 +1,7 @@
 """Wrong programs as ./try-slips and ./try-timers read them, and as rt reads those of a crate: a 'file:' holds for the pairs after it, and the 'old:'
 text of a pair is in that file once, when the pairs before it are put in. Other lines say nothing to the prover.
-Those of a crate, crates/NAME/must-fail/*.edit and *.slip, name files of that crate; a timer, timers/*.edit, names its files from the root, and its
-first line, 'falls: NAME', the crate whose theorem refuses it.
+Those of a crate, crates/NAME/must-fail/*.edit and crates/NAME/slips/*.slip, name files of that crate; a timer, timers/*.edit, names its files from the
+root, and its first line, 'falls: NAME', the crate whose theorem refuses it.
     edits.py fit [NAME...]      which wrong programs of these crates do not fit their sources; with no NAME those of all crates, and all timers
     edits.py falls TIMER        the crate that refuses it
     edits.py changes TIMER      the crates that it changes
@@ -68,16 +68,16 @@ def faults(edit):
         if not falls(edit):
             yield f"{edit}: its first line is no 'falls: NAME'"
     else:
-        if edit.parent.name != "must-fail" or edit.suffix not in (".edit", ".slip"):
-            yield f"{edit}: nothing tries it: it is no must-fail/*.edit or must-fail/*.slip"
-        if edit.suffix == ".slip" and edit.with_suffix(".edit").exists():
+        if (edit.parent.name, edit.suffix) not in (("must-fail", ".edit"), ("slips", ".slip")):
+            yield f"{edit}: nothing tries it: it is no must-fail/*.edit or slips/*.slip"
+        if edit.suffix == ".slip" and (edit.parent.parent / "must-fail" / f"{edit.stem}.edit").exists():
             yield f"{edit}: there is an .edit of this name"
     yield from read(edit, pathlib.Path())[1]
 
 
 def fit(names):
     crates = pathlib.Path("crates")
-    edits = {path for folder in ("must-fail/*", "*/*.edit", "*/*.slip") for path in crates.glob(f"*/{folder}")}
+    edits = {path for folder in ("must-fail/*", "slips/*", "*/*.edit", "*/*.slip") for path in crates.glob(f"*/{folder}")}
     edits = {edit for edit in edits if edit.parts[1] in (names or [edit.parts[1]])}
     if not names:
         edits |= set(pathlib.Path("timers").glob("*"))

@@ -62,59 +62,65 @@ crates_of() { # PROGRAM
         END { visit(program); print count }' "$root/crates.txt"
 }
 
-# Of all that rt says, a line for each crate that it had to prove.
+# Of all that rt says, a line for each crate that it had to prove. It says nothing of a crate that it has proved before.
 progress() { # PROGRAM
-    local all proved=0 line name
+    local all proved=0 line name=
     all=$(crates_of "$1")
     while IFS= read -r line; do
-        case $line in "rt: "*" proved ("*) proved=$((proved + 1)) ;; *) continue ;; esac
-        name=${line#rt: }
-        case $line in *" s)") say "proved $proved of $all: ${name%% *}" ;; esac
+        case $line in
+        "crate "*": modules loaded="*)
+            name=${line#crate }
+            name=${name%%:*}
+            ;;
+        "logic=proved "*)
+            proved=$((proved + 1))
+            say "proved $proved of at most $all: $name"
+            ;;
+        esac
     done
 }
 
-# Proves, builds and tests a program where it is missing or a source is newer. rt leaves its stamp only where all of that went well.
+# Proves and builds a program where it is missing or a source is newer. Only rt run builds one, and it runs it too: here on nothing, and its status is then the program's. So
+# what tells that all went well is the line with which rt starts it.
 ready() { # PROGRAM
     local passed=$root/target/stamp/$1 log=$root/target/log/$1.log
-    [ -x "$root/target/bin/$1" ] || rm -f "$passed"
-    if [ -f "$passed" ] && [ -z "$(find "$root/crates" "$root/crates.txt" -newer "$passed" -print -quit)" ]; then
+    [ -x "$root/crates/$1/out/$1" ] || rm -f "$passed"
+    # A crate's own folder is newer once rt has made out/ in it.
+    if [ -f "$passed" ] && [ ! "$root/crates.txt" -nt "$passed" ] &&
+        [ -z "$(find "$root/crates" -mindepth 2 -name out -prune -o -newer "$passed" -print -quit)" ]; then
         return
     fi
     need_rt
     say "proving and building the program $1: some minutes, once"
-    { mkdir -p "$root/target/log" && : >"$log.began"; } 2>/dev/null || fail "cannot write to $root/target"
-    if ! (cd "$root" && rt check "$1") </dev/null 2>&1 | tee "$log" | progress "$1"; then
+    { mkdir -p "$root/target/log" "$root/target/stamp" && : >"$log.began"; } 2>/dev/null || fail "cannot write to $root/target"
+    (cd "$root/crates/$1" && rt run 2>&1 >/dev/null </dev/null) | tee "$log" | progress "$1" || :
+    if ! grep -q "^rt: running out/$1;" "$log"; then
         tail -n 10 "$log" | cut -c 1-300 >&2
         fail "the program $1 is not proved; all that rt said is in $log"
     fi
     touch -r "$log.began" "$passed"
 }
 
-# The toolchain compiles for x86-64 alone. Elsewhere a program runs as rt runs it, under the toolchain's emulator.
 start() { # PROGRAM [ARGUMENT..]
-    local program=$root/target/bin/$1 kit
+    local program=$root/crates/$1/out/$1
     shift
-    if [ "$(uname -m)" = x86_64 ]; then
-        exec "$program" "$@"
-    fi
-    kit=$(dirname -- "$(dirname -- "$(readlink -f -- "$(command -v rt)")")")/on/$(uname -m)/toolchain
-    exec "$kit/bin/qemu-x86_64" "$kit/lib/ld-linux-x86-64.so.2" --library-path "$kit/lib" "$program" "$@"
+    exec "$program" "$@"
 }
 
-# The whole of it. A program has no status to end with: it says nothing on standard error of a sound trace, one sentence of a refused one, and of a write that fails why.
+# The whole of it. A program ends with 0 where it could read and write. It says nothing on standard error of a sound trace, one sentence of a refused one, and why where it could not
+# read or write.
 answer() { # PROGRAM [ARGUMENT..]
     take
     ready "$1"
-    [ "$(uname -m)" = x86_64 ] || need_rt
     [ ! -t 0 ] || say "reading a trace from the terminal, to its end (Ctrl-D); $me FILE reads one from a file"
     hear start "$@"
     case $ended-$heard in
     0-) exit 0 ;;
-    "0-cannot write: "*) fail "$heard" ;;
     0-*)
         printf '%s\n' "$heard" >&2 || :
         exit 1
         ;;
+    2-?*) fail "$heard" ;;
     esac
     [ -z "$heard" ] || say "$heard"
     fail "the program $1 ended with status $ended"

@@ -10,7 +10,7 @@ fn main() {
     // The archive's checksum: cargo itself goes by the time of the file, and an older archive can take the place of a newer one.
     println!("cargo:rerun-if-env-changed=PIT_LIB_SUM");
     let root = PathBuf::from(env::var("CARGO_MANIFEST_DIR").unwrap()).join("../..");
-    let folder = root.join(env::var("PIT_LIB_DIR").unwrap_or_else(|_| "target/staticlib".to_string()));
+    let folder = root.join(env::var("PIT_LIB_DIR").unwrap_or_else(|_| "target/native".to_string()));
     println!("cargo:rerun-if-changed={}", folder.join("libpit.a").display());
 
     let target = match env::var("CARGO_CFG_TARGET_ARCH").as_deref() {
