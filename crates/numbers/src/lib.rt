@@ -1,6 +1,8 @@
 // Words on numbers that several crates share: specs/ has the definitions, proofs/ their laws. The functions are a flag's byte, and numbers
 // put together from a low and a high half, as their bytes or found in bytes (field.rt); the counts of a radix, and of four digits whether
 // they are decimal and what they weigh (radix.rt).
+#![tactic(auto)]
+
 mod field;
 mod radix;
 

@@ -1,9 +1,11 @@
 // Why a call or a trace is refused: document 01's table of refusal numbers, and those that requests L1, L7 and L8 of document 02 add. Two of the table's are gone:
 // request L6 lifts the limit that 6 stood for, and L8 splits 14.
+#![tactic(auto)]
+
 ghost use Rattle.std.specs.Prelude.{◌≡◌};
 ghost use Rattle.refusal.specs.Refusal.{refusal_number};
 
-#[derive(Drop)]
+#[derive(Clone, Copy)]
 pub enum Refusal {
     PortUnknown,
     ChannelAbove2,

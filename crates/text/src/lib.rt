@@ -1,8 +1,11 @@
 // Text in lent bytes: bytes, decimal numbers and hex digits, put at a place. The answer is the place behind what was put. What does not fit is not put.
+#![tactic(auto)]
+
 ghost use Rattle.std.specs.Prelude.{◌≡◌, ◌<◌};
 ghost use Rattle.text.specs.Number.{digit, decimal, hex};
 ghost use Rattle.text.specs.Put.{put, answered};
 
+#[tactic(auto, unfolding(crate::specs::Put::put))]
 pub fn put(out: &mut [u8], place: usize, text: &[u8]) -> usize
     ensures { answered result out.new ≡ put text.now out.old place }
 {
@@ -12,7 +15,8 @@ pub fn put(out: &mut [u8], place: usize, text: &[u8]) -> usize
     if out.len() - place < text.len() {
         return place;
     }
-    bytes::copy(text, &mut out[place..]);
+    let size = text.len();
+    out[place..place + size].copy_from_slice(text);
     place + text.len()
 }
 
