@@ -20,7 +20,7 @@ use Rattle.latch.specs.declared.reading.ByteRead.{ByteRead}
 use Rattle.latch.specs.Latching.{latch_count}
 use Rattle.latch.specs.Status.{access_number, status_byte, no_status, with_status_latch}
 use Rattle.latch.specs.ReadBack.{count_held, status_held, read_back}
-use Rattle.latch.specs.Reading.{status_read, read_byte}
+use Rattle.latch.specs.Reading.{read_byte}
 use Rattle.latch.proofs.StatusByte.{flag-below, access-from, mode-below, status-never-0}
 use Rattle.latch.proofs.Words.{status-read}
 use Rattle.latch.proofs.ReadBacks.{status-leaves, count-leaves, status-next}

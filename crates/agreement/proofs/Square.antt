@@ -48,7 +48,7 @@ module _ (model : PitType) (bcd : Bool) (n : ℕ) (least : 2 ≤ n) (most : load
   moved : (high : Bool) (v w : ℕ) (d : Channel) → v ≤ radix_counts bcd → Alike high v d → Moves model n high v w → Wave model bcd high v d
       → Wave model bcd high w (tick model d)
   moved high v w d top alike (counts t takes e some left) h =
-      wave high w (tick model d) left (by-tick.goes_on model bcd high v t d top takes (counting high v d (omega arith) h) w e some left)
+      wave high w (tick model d) left (by-tick.goes-on model bcd high v t d top takes (counting high v d (omega arith) h) w e some left)
   moved high v w d top alike (stops takes pos waits none) h =
       subst (λ (x : ℕ). Wave model bcd high x (tick model d)) (sym none)
       (by-tick.lingers model bcd high v v d top takes (counting high v d pos h) refl (alike pos ∙ waits))

@@ -15,7 +15,6 @@ use Rattle.channel.proofs.Modes.{every-mode}
 use Rattle.load.specs.Write.{put_register, stops_on_low_byte, write_byte}
 use Rattle.sheet.specs.Gate.{fall_effect}
 use Rattle.sheet.specs.Counter.{Fixed, fixed_at, Phase, awaits_count, awaits_trigger, loading, counting, lost}
-use Rattle.sheet.specs.CounterWrite.{complete}
 use Rattle.agreement.specs.Watching.{watching}
 use Rattle.agreement.proofs.Tracking.{Core, core_of, view, Rules, down, rate, square, paused, Standing, PhaseAt, Holds, Tracks, tracked}
 

@@ -1,6 +1,6 @@
 -- M3, M3-8253, M3-8254 in step with the sheets' counter: the tick that loads, every tick inside a half, and the last of a half, which loads again whatever count has
 -- been written by then. Assumes nothing.
-use Prim.Native.Nat.{ℕ, suc, ◌-◌, ◌<◌, ◌≤◌}
+use Prim.Native.Nat.{ℕ, suc, ◌<◌, ◌≤◌}
 use mathlib.Core.Bool.{Bool, true, false, not, cond}
 use mathlib.Core.Path.{◌≡◌, refl, sym, ap, ap₂, ◌∙◌, subst}
 use native.Mathlib.Nat.{mod-eq_of_lt, le_trans}

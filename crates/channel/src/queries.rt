@@ -5,7 +5,7 @@ ghost use Rattle.channel.specs.Queries.{get_output_state, get_channel_count, doe
 use crate::{Channel, ChannelMode};
 
 // The count register, the counting element, and whether the channel is counting.
-#[derive(Drop)]
+#[derive(Clone, Copy)]
 pub struct ChannelCount {
     pub count_register: u16,
     pub counting_element: u16,
@@ -13,7 +13,7 @@ pub struct ChannelCount {
 }
 
 // The three things that is_dirty answers, and the channel with its mark cleared.
-#[derive(Drop)]
+#[derive(Clone, Copy)]
 pub struct DirtyAnswer {
     pub dirty: bool,
     pub counting: bool,

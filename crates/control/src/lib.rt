@@ -1,11 +1,13 @@
 // The control byte, taken apart into one of four commands.
+#![tactic(auto)]
+
 ghost use Rattle.std.specs.Prelude.{◌≡◌, ◌<◌};
 ghost use Rattle.control.specs.Control.{mode_of, access_of, read_back_of, names, names_any, channel_three, command_of};
 
 use channel::{ChannelMode, ControlWord, PitType, RwMode};
 
 // What a read-back asks for: counts, status, or both, of the channels that it names.
-#[derive(Drop)]
+#[derive(Clone, Copy)]
 pub struct ReadBackWord {
     pub counts: bool,
     pub status: bool,
@@ -14,7 +16,7 @@ pub struct ReadBackWord {
     pub names_2: bool,
 }
 
-#[derive(Drop)]
+#[derive(Clone, Copy)]
 pub enum Command {
     // Channel 3, but for the 8254's read-back.
     Nothing,

@@ -1,15 +1,13 @@
--- The borrow row by row, as it ends at the ones, the tens, the hundreds, the thousands or nowhere; and that the digits' way comes to what
--- document 01 takes, from all 65,536 starts. Assumes nothing.
-use Rattle.std.proofs.Common.{◌≡◌, ℕ, zero, suc, ◌-◌, ◌<◌, ◌≤◌, true, false, cond, eqb, sym, refl, ap, ◌∙◌, arith, eq-eqb, ne_eqb}
+-- The borrow row by row, as it ends at the ones, the tens, the hundreds, the thousands or nowhere. Assumes nothing.
+use Rattle.std.proofs.Common.{◌≡◌, ℕ, zero, suc, ◌-◌, ◌<◌, ◌≤◌, true, false, cond, eqb, refl, arith, eq-eqb, ne_eqb}
 use native.Mathlib.Numerals.{unary_clauses}
 use lib.Dec.{eqb-suc-zero}
-use Rattle.numbers.specs.Digits.{ones, tens, hundreds, thousands, pack}
-use Rattle.numbers.proofs.Digits.{ones-pack, tens-pack, hundreds-pack, whole}
+use Rattle.numbers.specs.Digits.{pack}
+use Rattle.numbers.proofs.Digits.{ones-pack, tens-pack, hundreds-pack}
 use Rattle.count.specs.declared.digits.Digits.{Digits}
 use Rattle.count.specs.Step.{decimal_take, decimal_step}
-use Rattle.count.specs.Borrow.{digits_of, element_of, one_less}
+use Rattle.count.specs.Borrow.{digits_of, one_less}
 use Rattle.count.specs.Inner.{FourBits}
-use Rattle.count.specs.SameStep.{SameStep}
 
 abbrev pub digits : ℕ → ℕ → ℕ → ℕ → Digits
 digits a b c d = record { thousands = a; hundreds = b; tens = c; ones = d }
@@ -22,7 +20,7 @@ borrowed a (suc b) zero zero = digits a b 9 9
 borrowed (suc a) zero zero zero = digits a 9 9 9
 borrowed zero zero zero zero = digits 9 9 9 9
 
-by_rows : (a b c d : ℕ) → one_less (digits a b c d) ≡ borrowed a b c d
+pub by_rows : (a b c d : ℕ) → one_less (digits a b c d) ≡ borrowed a b c d
 unfolding one_less
 by_rows a b c (suc d) = simp (eqb-suc-zero d, unary_clauses)
 by_rows a b (suc c) zero = simp (eqb-suc-zero c, unary_clauses)
@@ -43,22 +41,10 @@ unfolding decimal_step
 step-above e n = simp (ne_eqb e 0 n)
 
 -- `decimal_take` asks the digits in turn, and `pack` says what they are
-take-pack : (a b c d : ℕ) → a < 16 → b < 16 → c < 16 → d < 16
+pub take-pack : (a b c d : ℕ) → a < 16 → b < 16 → c < 16 → d < 16
     → decimal_take (pack a b c d) ≡ cond (eqb d 0) (cond (eqb c 0) (cond (eqb b 0) 0x667 0x67) 0x7) 1
 take-pack a b c d ha hb hc hd =
     simp (ones-pack a b c d ha hb hc hd, tens-pack a b c d ha hb hc hd, hundreds-pack a b c d ha hb hc hd)
-
--- the one place where the subtraction of 1, 0x7, 0x67 or 0x667 is looked into: the rest goes by the digits
-step-pack : (a b c d : ℕ) → a < 16 → b < 16 → c < 16 → d < 16 → decimal_step (pack a b c d) ≡ element_of (borrowed a b c d)
-step-pack a b c (suc d) ha hb hc hd =
-    step-above _ (λ z. omega arith) ∙ simp (take-pack a b c (suc d) ha hb hc hd, eqb-suc-zero d) (omega arith)
-step-pack a b (suc c) zero ha hb hc hd =
-    step-above _ (λ z. omega arith) ∙ simp (take-pack a b (suc c) 0 ha hb hc hd, eqb-suc-zero c) (omega arith)
-step-pack a (suc b) zero zero ha hb hc hd =
-    step-above _ (λ z. omega arith) ∙ simp (take-pack a (suc b) 0 0 ha hb hc hd, eqb-suc-zero b) (omega arith)
-step-pack (suc a) zero zero zero ha hb hc hd =
-    step-above _ (λ z. omega arith) ∙ simp (take-pack (suc a) 0 0 0 ha hb hc hd) (omega arith)
-step-pack zero zero zero zero ha hb hc hd = unfold decimal_step in refl
 
 -- four bits for each digit are enough for what the borrow leaves
 bits-borrowed : (a b c d : ℕ) → a < 16 → b < 16 → c < 16 → d < 16 → FourBits (borrowed a b c d)
@@ -74,18 +60,5 @@ module _ (d : Digits) (f : FourBits d) where
       rw (by_rows d.thousands d.hundreds d.tens d.ones)
       (bits-borrowed _ _ _ _ f.thousands-bits f.hundreds-bits f.tens-bits f.ones-bits)
 
-  -- a step of the digits is a step of the number that has them
-  pub less-element : element_of (one_less d) ≡ decimal_step (element_of d)
-  less-element =
-      rw (by_rows d.thousands d.hundreds d.tens d.ones)
-      (sym (step-pack _ _ _ _ f.thousands-bits f.hundreds-bits f.tens-bits f.ones-bits))
-
 pub of-bits : (e : ℕ) → FourBits (digits_of e)
 of-bits e = omega arith
-
-pub same_step : SameStep
-same_step e h = less-element (digits_of e) (of-bits e) ∙ ap decimal_step (whole e h)
-
--- so a step of a number goes by the rows
-pub step-whole : (e : ℕ) → e < 65536 → decimal_step e ≡ element_of (borrowed (thousands e) (hundreds e) (tens e) (ones e))
-step-whole e h = sym (same_step e h) ∙ ap element_of (by_rows (thousands e) (hundreds e) (tens e) (ones e))

@@ -11,7 +11,8 @@ use Rattle.count.specs.Borrow.{digits_of, element_of, after_borrow, one_less}
 use Rattle.count.specs.Lending.{left_of, borrows_of, by_tens, by_hundreds, by_thousands, many_less}
 use Rattle.count.specs.ManyCounts.{SameLess, SameCounts}
 use Rattle.count.specs.Inner.{FourBits}
-use Rattle.count.proofs.Borrow.{of-bits, less-bits, less-element}
+use Rattle.count.proofs.Borrow.{of-bits, less-bits}
+use Rattle.count.proofs.StepByRows.{less-element}
 
 -- what a digit has and what it is asked for
 few : (d n : ℕ) → n ≤ d → (left_of d n ≡ d - n) × (borrows_of d n ≡ 0)

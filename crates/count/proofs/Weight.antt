@@ -6,7 +6,8 @@ use Rattle.numbers.specs.Digits.{pack, GoodDigits, weight, packed}
 use Rattle.numbers.proofs.Digits.{weight-pack, whole, weight-below, packed-weight}
 use Rattle.count.specs.Step.{decimal_step}
 use Rattle.count.specs.Borrow.{element_of}
-use Rattle.count.proofs.Borrow.{borrowed, step-above, step-whole}
+use Rattle.count.proofs.Borrow.{borrowed, step-above}
+use Rattle.count.proofs.StepByRows.{step-whole}
 
 -- one of a decade is nine of every decade below it, and one more
 weight-borrowed : (a b c d : ℕ) → a < 16 → b < 16 → c < 16 → d < 16 → (pack a b c d ≡ 0 → ⊥)

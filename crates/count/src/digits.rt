@@ -7,7 +7,7 @@ ghost use Rattle.count.specs.Inner.{FourBits};
 
 use crate::lending::many_less;
 
-#[derive(Drop)]
+#[derive(Clone, Copy)]
 pub(crate) struct Digits {
     pub thousands: u8,
     pub hundreds: u8,

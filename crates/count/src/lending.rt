@@ -5,7 +5,7 @@ ghost use Rattle.count.specs.Lending.{lends, many_less};
 use crate::digits::Digits;
 
 // What is left of a digit that lent, and how often it borrowed from the next digit up.
-#[derive(Drop)]
+#[derive(Clone, Copy)]
 struct Lent {
     left: u8,
     borrows: u32,

@@ -1,4 +1,6 @@
 // Counts: the counting element goes down by one in its radix, once or a number of times.
+#![tactic(auto)]
+
 mod at_once;
 mod digits;
 mod lending;

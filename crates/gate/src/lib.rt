@@ -1,4 +1,6 @@
 // The gate pin: what its edges do.
+#![tactic(auto)]
+
 ghost use Rattle.std.specs.Prelude.{◌≡◌};
 ghost use Rattle.gate.specs.Gate.{loads_on_rise, stops_on_fall, high_on_fall, after_edge, set_gate};
 ghost use Rattle.gate.specs.Inner.{enters, entered_at, raises};

@@ -1,12 +1,12 @@
 -- The reads of a channel. Where no status is held: the two reads of a word, the first of which gives the low byte and leaves the latch, and the second the high byte and ends
 -- it. A held status is read once and leaves the latch. No read touches anything but the latch and the held status. Assumes nothing.
 use Prim.Native.Nat.{◌/◌, ◌%◌}
-use mathlib.Core.Bool.{Bool, true, false, cond}
+use mathlib.Core.Bool.{true, false}
 use mathlib.Core.Path.{◌≡◌, refl}
 use Rattle.channel.specs.declared.Channel.{Channel}
 use Rattle.channel.specs.declared.RwMode.TheVariants.{LsbMsb}
 use Rattle.channel.specs.declared.ReadState.TheVariants.{NoRead, ReadLsb}
-use Rattle.channel.proofs.Pick.{of-pick, pick_same, pick-knowing}
+use Rattle.channel.proofs.Pick.{pick-knowing}
 use Rattle.latch.specs.declared.reading.ByteRead.{ByteRead}
 use Rattle.latch.specs.Status.{no_status}
 use Rattle.latch.specs.Reading.{count_read, status_read, read_byte}

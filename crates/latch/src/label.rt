@@ -6,7 +6,7 @@ use crate::reading::{Half, next_half};
 use channel::Channel;
 
 // The half of a count that a byte is.
-#[derive(Drop)]
+#[derive(Clone, Copy)]
 pub enum WhichHalf {
     Low,
     High,
@@ -14,7 +14,7 @@ pub enum WhichHalf {
     Neither,
 }
 
-#[derive(Drop)]
+#[derive(Clone, Copy)]
 pub struct Label {
     pub half: WhichHalf,
     pub held: bool,

@@ -1,4 +1,6 @@
 // Latching a count, latching counts and status by a read-back, reading byte by byte, and what a read says of its byte.
+#![tactic(auto)]
+
 mod holding;
 mod label;
 mod latching;

@@ -5,13 +5,13 @@ ghost use Rattle.latch.specs.Reading.{half_at, byte_at, starts_word, after_read,
 use channel::{Channel, Latch, ReadState, RwMode};
 
 // Which half of the output latch a read gives.
-#[derive(Drop)]
+#[derive(Clone, Copy)]
 pub enum Half {
     Low,
     High,
 }
 
-#[derive(Drop)]
+#[derive(Clone, Copy)]
 pub struct ByteRead {
     pub byte: u8,
     pub channel: Channel,

@@ -1,8 +1,7 @@
 -- Where a load cycle moves the value the counting element is that value. Assumes nothing.
 use mathlib.Core.Path.{◌≡◌, ap}
 use Rattle.channel.specs.declared.Channel.{Channel}
-use Rattle.channel.specs.declared.ChannelState.TheVariants.{WaitingForLoadCycle, Counting}
-use Rattle.channel.specs.declared.ReloadFlag.TheVariants.{Normal}
+use Rattle.channel.specs.declared.ChannelState.TheVariants.{WaitingForLoadCycle}
 use Rattle.channel.specs.Shared.{change_channel_state, put_element}
 use Rattle.load.specs.Cycle.{load_value, moved, load_cycle}
 

@@ -1,4 +1,6 @@
 // Writes to a channel's data port, and the load cycle that moves the value written to the counting element.
+#![tactic(auto)]
+
 mod cycle;
 mod finalize;
 mod write;

@@ -1,4 +1,6 @@
 // The mode set.
+#![tactic(auto)]
+
 ghost use Rattle.std.specs.Prelude.{◌≡◌};
 ghost use Rattle.mode.specs.Mode.{output_after, output_on_reload, reload_on_trigger, square_mask, load_mask, reloading_of, set_mode};
 

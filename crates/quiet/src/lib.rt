@@ -1,4 +1,6 @@
 // How many next ticks are all alike, and what that many come to at once: docs/TICK.md, "Many ticks at once".
+#![tactic(auto)]
+
 ghost use Rattle.std.specs.Prelude.{◌-◌, ◌*◌, ◌≤◌, ◌≡◌};
 ghost use Rattle.numbers.specs.Times.{times};
 ghost use Rattle.count.specs.Count.{count};
@@ -168,7 +170,7 @@ pub fn quiet(c: Channel) -> u32
 }
 
 // The four fields that ticks which are all alike can move. An owner of the record puts them where they stand.
-#[derive(Drop)]
+#[derive(Clone, Copy)]
 pub struct Moved {
     pub cycles_in_state: u32,
     pub counting_element: u16,

@@ -4,7 +4,7 @@ ghost use Rattle.tick.specs.Due.{triggered, runs, reloads_from, counting_due, fl
 
 use channel::{Channel, ChannelMode, ChannelState, ReloadFlag};
 
-#[derive(Drop)]
+#[derive(Clone, Copy)]
 pub enum Kind {
     // Nothing but the passing of time.
     Idle,

@@ -1,4 +1,6 @@
 // One tick of one channel, drawn from the data sheets: docs/TICK.md. Nothing is refused here, and no output is told of.
+#![tactic(auto)]
+
 mod counting;
 pub mod due;
 mod level;
