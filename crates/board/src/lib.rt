@@ -1,4 +1,6 @@
 // The board's record, a fresh one, and what a host can ask of it. The calls that change it are the crate calls'.
+#![tactic(auto)]
+
 pub mod making;
 pub mod queries;
 
@@ -11,7 +13,7 @@ use latch::Label;
 use refusal::Refusal;
 use time::{SystemTicks, TimerTicks};
 
-#[derive(Drop)]
+#[derive(Clone, Copy)]
 pub struct Board {
     // A channel's place here is its number.
     pub channels: [Channel; 3],
@@ -29,21 +31,21 @@ pub struct Board {
 }
 
 // What a port read says: the byte, and of the byte which half it is and whether it was held.
-#[derive(Drop)]
+#[derive(Clone, Copy)]
 pub struct PortRead {
     pub byte: u8,
     pub label: Label,
 }
 
 // What working ticks off comes to: how many were made, and the new place in the event bytes.
-#[derive(Drop)]
+#[derive(Clone, Copy)]
 pub struct Worked {
     pub made: TimerTicks,
     pub place: usize,
 }
 
 // What a call answers: a refusal, or its one other case.
-#[derive(Drop)]
+#[derive(Clone, Copy)]
 pub enum Answer {
     Refused(Refusal),
     // Counts, load cycle, reset, making a board.
@@ -60,7 +62,7 @@ pub enum Answer {
     Worked(Worked),
 }
 
-#[derive(Drop)]
+#[derive(Clone, Copy)]
 pub struct Answered {
     pub answer: Answer,
     pub board: Board,

@@ -2,6 +2,8 @@
 //
 // A call finds its turn (calling.rt) and has it done to the board, so that by value, in a trace and in a host's bytes it is the same rule. What a turn is about is taken out of the board
 // and put back here.
+#![tactic(auto)]
+
 mod calling;
 
 ghost use Rattle.std.specs.Prelude.{◌<◌, ◌||◌, [], ◌≡◌};

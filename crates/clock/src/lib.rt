@@ -1,5 +1,7 @@
 // The board's time: system ticks come in, timer ticks come out. They are owed until they are worked off. No board goes in or out: an owner of one puts the fields back where
 // they stood.
+#![tactic(auto)]
+
 ghost use Rattle.std.specs.Prelude.{◌||◌, [], ◌≡◌};
 ghost use Rattle.refusal.specs.Refusal.{refusal_number};
 ghost use Rattle.board.specs.declared.Board.{Board};
@@ -13,7 +15,7 @@ use refusal::Refusal;
 use time::{Passed, SystemTicks, TimerTicks};
 
 // Remainder, warp, defer flag and owed ticks are as they were, where the ticks are refused.
-#[derive(Drop)]
+#[derive(Clone, Copy)]
 pub struct Elapsed {
     pub answer: Answer,
     pub remainder: SystemTicks,

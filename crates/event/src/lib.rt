@@ -1,11 +1,13 @@
 // Output events: two bytes for a change of output level, in the rest of the bytes that a call lends. No board is needed here.
+#![tactic(auto)]
+
 ghost use Rattle.std.specs.Prelude.{◌≡◌, ◌≤◌, ◌++◌, length, drop};
 ghost use Rattle.event.specs.Event.{same_level, event_of, level_event, event_bytes, placing, place_event};
 
 use channel::Channel;
 use refusal::Refusal;
 
-#[derive(Drop)]
+#[derive(Clone, Copy)]
 pub enum Event {
     // The output stays where it is.
     Unchanged,
@@ -14,7 +16,7 @@ pub enum Event {
 }
 
 // The new place in the event bytes, or why nothing was written.
-#[derive(Drop)]
+#[derive(Clone, Copy)]
 pub enum Placed {
     At(usize),
     Refused(Refusal),

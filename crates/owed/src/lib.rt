@@ -1,4 +1,6 @@
 // Owed ticks: a run or catch-up leaves them on the board, and they are worked off here, each with the events of its outputs.
+#![tactic(auto)]
+
 ghost use Rattle.std.specs.Prelude.{◌≡◌, List, [], ◌∷◌, ℕ, ◌≤◌, ◌+◌, length};
 ghost use Rattle.refusal.specs.Refusal.{refusal_number};
 ghost use Rattle.board.specs.declared.Board.{Board};
@@ -72,7 +74,7 @@ fn put_events(events: &mut [u8], place: usize, e0: Event, e1: Event, e2: Event) 
 }
 
 // What working ticks off on three channels comes to: an owner of the board puts the channels and what is owed back where they stood.
-#[derive(Drop)]
+#[derive(Clone, Copy)]
 pub struct Ticked {
     pub answer: Answer,
     pub c0: Channel,

@@ -1,5 +1,7 @@
 // Ports by their numbers, and what the calls that may raise an event share: a channel's new record, and the event of its output where there is one; and the read-back of up to three channels. No board goes in or out: its
 // owner puts the record back at its place.
+#![tactic(auto)]
+
 pub mod port;
 pub mod reading_back;
 
@@ -15,7 +17,7 @@ use channel::Channel;
 use event::{Event, Placed};
 
 // What is said of a channel, and its record: where the event is refused, the record as it was.
-#[derive(Drop)]
+#[derive(Clone, Copy)]
 pub struct Settled {
     pub answer: Answer,
     pub channel: Channel,

@@ -2,7 +2,7 @@
 ghost use Rattle.std.specs.Prelude.{◌≡◌};
 ghost use Rattle.ports.specs.Port.{port_of};
 
-#[derive(Drop)]
+#[derive(Clone, Copy)]
 pub enum Port {
     // A channel's data port.
     Data(usize),

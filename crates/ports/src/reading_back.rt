@@ -10,7 +10,7 @@ use control::ReadBackWord;
 use event::{Event, Placed};
 
 // What is said of the write, and the three records: where it is refused, as they were.
-#[derive(Drop)]
+#[derive(Clone, Copy)]
 pub struct ThreeRead {
     pub answer: Answer,
     pub c0: Channel,

@@ -1,25 +1,27 @@
 // Processor ticks and chip ticks, and the one way from the first to the second: the divisor.
+#![tactic(auto)]
+
 ghost use Rattle.std.specs.Prelude.{◌≡◌, ◌<◌};
 ghost use Rattle.time.specs.Time.{converted, conversion, passed_reply, ticks_from_time};
 
 use refusal::Refusal;
 
 // The processor's count: ticks given, the remainder and the warp.
-#[derive(Drop)]
+#[derive(Clone, Copy)]
 pub struct SystemTicks(pub u32);
 
 // The chip's count: ticks yielded, owed and made.
-#[derive(Drop)]
+#[derive(Clone, Copy)]
 pub struct TimerTicks(pub u32);
 
 // Timer ticks yielded, and the system ticks that did not make up another one.
-#[derive(Drop)]
+#[derive(Clone, Copy)]
 pub struct Conversion {
     pub ticks: TimerTicks,
     pub remainder: SystemTicks,
 }
 
-#[derive(Drop)]
+#[derive(Clone, Copy)]
 pub enum Passed {
     Converted(Conversion),
     Refused(Refusal),

@@ -14,7 +14,7 @@ use refusal::Refusal;
 use time::SystemTicks;
 
 // What is done to one channel.
-#[derive(Drop)]
+#[derive(Clone, Copy)]
 pub enum Work {
     Write(u8),
     Latch,
@@ -25,7 +25,7 @@ pub enum Work {
     LoadCycle,
 }
 
-#[derive(Drop)]
+#[derive(Clone, Copy)]
 pub enum Turn {
     // A channel of the board, and the work on it.
     OnChannel(u8, Work),

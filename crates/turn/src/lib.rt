@@ -2,6 +2,8 @@
 //
 // finding.rt finds an operation's port or channel, working.rt has the work on one channel. The board's time after a catch-up or a run is `clock`'s, and ticks are worked off by `owed`.
 // All of them serve a board by value (`calls`), a board in a host's bytes (`in_bytes`) and the runner, which owns one.
+#![tactic(auto)]
+
 pub mod finding;
 pub mod working;
 

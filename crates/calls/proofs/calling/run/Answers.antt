@@ -1,0 +1,5 @@
+use Rattle.turn.proofs.Turn.{run_is}
+use Rattle.calls.proofs.calling.run.Goals as goal
+
+pub returns : goal.returns
+returns c = c.bare.ensures _ _ c.run_turn.ensures.0 (run_is c.args.b c.args.ticks)
