@@ -1,8 +1,8 @@
 -- What each rule of a channel does to what is known of it. Assumes nothing.
 use Prim.Native.Nat.{ℕ, zero, suc}
-use mathlib.Core.Bool.{Bool, true, false, cond, false≢true, true≢false}
+use mathlib.Core.Bool.{Bool, true, false, cond, true≢false}
 use mathlib.Core.List.{List, [], ◌∷◌}
-use mathlib.Core.Path.{◌≡◌, refl, sym, ap, subst, ◌∙◌}
+use mathlib.Core.Path.{◌≡◌, refl, sym, ap, ◌∙◌}
 use Rattle.numbers.specs.Times.{times}
 use Rattle.sheet.specs.NullCount.{Happening, programmed, written, loaded}
 use Rattle.channel.specs.declared.Channel.{Channel}
@@ -14,13 +14,12 @@ use Rattle.channel.specs.declared.LoadState.TheVariants.{WaitingForMsb}
 use Rattle.channel.specs.declared.LoadType.{LoadType}
 use Rattle.channel.specs.declared.LoadType.TheVariants.{InitialLoad, SubsequentLoad}
 use Rattle.channel.specs.declared.PitType.{PitType}
-use Rattle.channel.specs.declared.Status.{Status}
 use Rattle.channel.specs.Fresh.{fresh_at}
 use Rattle.channel.specs.Record.{with_dirty}
 use Rattle.channel.specs.Shared.{waits_for_reload, waits_for_cycle, change_channel_state, change_output_state, put_element}
 use Rattle.channel.proofs.Pick.{pick-holds, pick-knowing}
 use Rattle.count.specs.Count.{count}
-use Rattle.gate.specs.Gate.{loads_on_rise, rising, stops_on_fall, high_on_fall, stopping, raising, falling, edge, after_edge, set_gate}
+use Rattle.gate.specs.Gate.{loads_on_rise, stops_on_fall, high_on_fall, stopping, edge, set_gate}
 use Rattle.latch.specs.declared.reading.ByteRead.{ByteRead}
 use Rattle.latch.specs.Latching.{latch_count}
 use Rattle.latch.specs.Reading.{read_byte}
@@ -28,14 +27,14 @@ use Rattle.latch.specs.ReadBack.{read_back}
 use Rattle.latch.proofs.Words.{every-read}
 use Rattle.latch.proofs.ReadBacks.{read-back-keeps}
 use Rattle.load.specs.Finalize.{waiting_state, first_state, loads_again, complete_load, enter_after, finalize_load}
-use Rattle.load.specs.Write.{put_register, stops_on_low_byte, stopped, begun, begins_word, word_in, state_in, write_at, write_byte}
-use Rattle.load.specs.Cycle.{load_value, cycle_in, load_cycle}
+use Rattle.load.specs.Write.{put_register, stops_on_low_byte, stopped, begun, begins_word, word_in, state_in, write_byte}
+use Rattle.load.specs.Cycle.{cycle_in, load_cycle}
 use Rattle.mode.specs.Mode.{set_mode}
 use Rattle.tick.specs.declared.due.Kind.{Kind}
 use Rattle.tick.specs.declared.due.Kind.TheVariants.{Idle}
 use Rattle.tick.specs.Due.{due_in, due}
-use Rattle.tick.specs.Loads.{load_is_due, loads}
-use Rattle.tick.specs.Tick.{aged_by, never_loaded, idle, tick_by, tick}
+use Rattle.tick.specs.Loads.{loads}
+use Rattle.tick.specs.Tick.{aged_by, idle, tick_by, tick}
 use Rattle.tick.proofs.Keeps.{tick-keeps}
 use Rattle.tick.proofs.Loaded.{load_moves}
 use Rattle.tick.proofs.NullCount.{null-after-tick}

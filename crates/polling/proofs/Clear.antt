@@ -72,7 +72,7 @@ null-is-the-sheets b i earlier start on os = (known b i earlier start on os).nul
 loads-in : (c : Channel) (value : ℕ) (earlier : List Happening) (f : Fixed ℕ) → last_written earlier ≡ f → LoadsAs value f c → LoadedLast c (loaded value ∷ earlier)
 loads-in c value earlier left_open is h = absurd h
 loads-in c value earlier (fixed_at count) is h =
-    record { value = value; count = count; earlier = earlier; latest = refl; last_written = is; loads-as = h }
+    record { value = value; count = count; earlier = earlier; latest = refl; last-written = is; loads-as = h }
 
 clear_in : (c : Channel) (all : List Happening) → IsLoaded all c → null_count all ≡ false → (all ≡ []) ⊎ LoadedLast c all
 clear_in c [] h e = inl refl

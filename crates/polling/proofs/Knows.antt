@@ -1,15 +1,13 @@
 -- What is known of a channel from what happened to it: its mark; where a count was written, its reload value, and else that it waits for one; and where the latest is a load, the value that
 -- was loaded. What touches none of this keeps it. Assumes nothing.
 use Prim.Native.Nat.{ℕ}
-use mathlib.Core.Bool.{Bool, true, false}
+use mathlib.Core.Bool.{true, false}
 use mathlib.Core.List.{List, [], ◌∷◌}
-use mathlib.Core.Path.{◌≡◌, refl, sym, ap, ◌∙◌}
+use mathlib.Core.Path.{◌≡◌, refl, sym, ◌∙◌}
 use Rattle.sheet.specs.Counter.{Fixed, left_open, fixed_at}
 use Rattle.sheet.specs.NullCount.{Happening, programmed, written, loaded, null_count, last_written}
 use Rattle.channel.specs.declared.Channel.{Channel}
 use Rattle.channel.specs.declared.ChannelState.TheVariants.{WaitingForReload}
-use Rattle.channel.specs.declared.ControlWord.{ControlWord}
-use Rattle.channel.specs.declared.Reloading.{Reloading}
 use Rattle.load.specs.Cycle.{masked_in, load_value}
 
 -- the count written last is the reload value; before one is written the channel waits for it

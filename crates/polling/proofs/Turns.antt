@@ -27,7 +27,7 @@ use Rattle.step.proofs.Hearing.{Listener, Kept, on_command, on_ticks, on_call, c
 use Rattle.step.proofs.Leaves.{refused-leaves}
 use Rattle.step.proofs.Three.{step-three}
 use Rattle.polling.specs.Happened.{byte_happens, command_happens, cycle_happens, tick_happens, ticks_happen, call_happens, happens, happened}
-use Rattle.polling.proofs.Knows.{Knows, unmoved-same, knows-still}
+use Rattle.polling.proofs.Knows.{Knows, knows-still}
 use Rattle.polling.proofs.Channels.{fresh-knows, mode-knows, counts-unmoved, latch-unmoved, read-unmoved, back-unmoved, dirty-unmoved, gate-unmoved, byte-knows, cycle-knows, tick-knows}
 
 -- what happens to a channel, as the rules tell it

@@ -1,6 +1,6 @@
 -- What the null count tells, over any calls. It is the sheet's (RB3); and where it is 0 the latest that happened is a load, of the value that the count written last loads as. Proved in
 -- proofs/Clear.antt.
-use Rattle.std.specs.Prelude.{ℕ, ◌+◌, ◌/◌, ◌%◌, ◌<◌, Bool, true, false, List, [], ◌∷◌, ◌⊎◌, ◌≡◌, length}
+use Rattle.std.specs.Prelude.{ℕ, ◌+◌, ◌/◌, ◌%◌, ◌<◌, true, false, List, [], ◌∷◌, ◌⊎◌, ◌≡◌, length}
 use Rattle.sheet.specs.Counter.{fixed_at}
 use Rattle.sheet.specs.NullCount.{Happening, written, loaded, null_count, last_written}
 use Rattle.channel.specs.declared.Channel.{Channel}

@@ -1,5 +1,7 @@
 // The count of a channel in one call, for a host that wants the count and not the bytes. What is promised of reads that a host makes itself, with other calls
 // between them, stands in specs/Promise.antt.
+#![tactic(auto)]
+
 ghost use Rattle.std.specs.Prelude.{◌≡◌};
 ghost use Rattle.refusal.specs.Reply.{number_in};
 ghost use Rattle.reading.specs.Beginning.{may_begin};
@@ -10,7 +12,7 @@ use board::Board;
 use channel::Channel;
 use refusal::Refusal;
 
-#[derive(Drop)]
+#[derive(Clone, Copy)]
 pub enum CountAnswer {
     Refused(Refusal),
     // The channel is not read low byte then high, is latched, holds a status, or has a word half read: nothing was done.
@@ -19,7 +21,7 @@ pub enum CountAnswer {
     Count(u16),
 }
 
-#[derive(Drop)]
+#[derive(Clone, Copy)]
 pub struct CountAnswered {
     pub answer: CountAnswer,
     pub board: Board,
@@ -39,7 +41,7 @@ impl CountAnswer {
 }
 
 // A record latched and read twice: the two bytes as a number.
-#[derive(Drop)]
+#[derive(Clone, Copy)]
 struct WordRead {
     word: u16,
     channel: Channel,

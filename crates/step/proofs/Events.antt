@@ -95,7 +95,7 @@ module _ (b : Board) (three : length b.channels ≡ 3) (n : ℕ) (on : n < 3) (c
         let p = placed events place new Unchanged e in
         record {
           same_place = p.0;
-          same_bytes = p.1;
+          same-bytes = p.1;
           same-levels = λ m. ap (λ (x : Board). level_at x m) (p.2 b (with_channel b n c)) ∙ all-stand same m;
         }
 
@@ -146,7 +146,7 @@ module _ (b : Board) (three : length b.channels ≡ 3) (events : List ℕ) (plac
       let p = placed events place a.0 Unchanged (e ∙ ap accepted a.1) in (
         a.0,
         a.1,
-        inl (record { same_place = p.0; same_bytes = p.1; same-levels = λ m. ap (λ (x : Board). level_at x m) (p.2 b b) }),
+        inl (record { same_place = p.0; same-bytes = p.1; same-levels = λ m. ap (λ (x : Board). level_at x m) (p.2 b b) }),
       )
 
   read-back-told : (word : ReadBackWord) → (read_back_write b word events place).reply ≡ accepted value
@@ -159,7 +159,7 @@ module _ (b : Board) (three : length b.channels ≡ 3) (events : List ℕ) (plac
       (λ counts status c. ap (λ (q : Pins). q.output) (read-back-keeps counts status c).pins-stay) in (
         a.0,
         a.1,
-        inl (record { same_place = p.0; same_bytes = p.1; same-levels = λ m. ap (λ (x : Board). level_at x m) (p.2 b (read_backs word b)) ∙ stands m }),
+        inl (record { same_place = p.0; same-bytes = p.1; same-levels = λ m. ap (λ (x : Board). level_at x m) (p.2 b (read_backs word b)) ∙ stands m }),
       )
 
   owing-told : (outcome : Outcome) → (outcome.reply ≡ accepted value → ToldBy b events place outcome value)

@@ -25,11 +25,11 @@ use Rattle.step.specs.Operation.{Operation, WritePort, ReadPort, SetChannelGate,
 use Rattle.step.specs.Step.{step}
 use Rattle.step.specs.Owed.{made_by}
 use Rattle.step.proofs.Hearing.{Listener, Kept, on_command, on_ticks, on_call, call_kept}
-use Rattle.sheet.specs.ControlByte.{Request, request_of}
+use Rattle.sheet.specs.ControlByte.{Request}
 use Rattle.agreement.specs.Words.{sheet_chip, sheet_access, sheet_request}
 use Rattle.agreement.specs.Watching.{Watch, watch_program, watch_reset, watch_tick, watch_gate, watch_write, watch_counts, watch_cycle}
 use Rattle.agreement.proofs.ControlByte.{control-agrees}
-use Rattle.agreement.proofs.Tracking.{Core, core_of, Tracks}
+use Rattle.agreement.proofs.Tracking.{core_of, Tracks}
 use Rattle.agreement.proofs.TrackTick.{tick-tracks}
 use Rattle.agreement.proofs.TrackGate.{gate-tracks}
 use Rattle.agreement.proofs.TrackBytes.{write-tracks}
