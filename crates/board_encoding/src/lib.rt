@@ -1,4 +1,6 @@
 // The byte form of a board: docs/ENCODING.md. A board that stands in lent bytes is the crate in_bytes'.
+#![tactic(auto)]
+
 mod storing;
 
 use encoding::CHANNEL_SIZE;

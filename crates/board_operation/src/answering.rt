@@ -7,7 +7,7 @@ ghost use Rattle.board_operation.specs.Made.{read_numbers, numbers_of, numbered}
 use board::{Answer, PortRead};
 
 // The refusal's number, or 0 and what the operation answers; 0 where it does not.
-#[derive(Drop)]
+#[derive(Clone, Copy)]
 pub struct Numbers {
     pub refusal: u8,
     pub first: u64,

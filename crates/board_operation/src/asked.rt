@@ -5,7 +5,7 @@ ghost use Rattle.board_operation.specs.Asked.{zero_or, write_asked, gate_asked, 
 use crate::Operation;
 use time::SystemTicks;
 
-#[derive(Drop)]
+#[derive(Clone, Copy)]
 pub enum Asked {
     Known(Operation),
     // No such code, or a target or number that it does not allow.
@@ -22,6 +22,7 @@ fn zero_or(number: u32, asked: Asked) -> Asked
     Asked::Unknown
 }
 
+#[tactic(auto, unfolding(crate::specs::Asked::write_asked))]
 fn write_asked(port: u16, number: u32) -> Asked
     ensures { result ≡ write_asked port number }
 {
@@ -31,6 +32,7 @@ fn write_asked(port: u16, number: u32) -> Asked
     Asked::Known(Operation::WritePort(port, number as u8))
 }
 
+#[tactic(auto, unfolding(crate::specs::Asked::gate_asked))]
 fn gate_asked(channel: u16, number: u32) -> Asked
     ensures { result ≡ gate_asked channel number }
 {
@@ -40,6 +42,7 @@ fn gate_asked(channel: u16, number: u32) -> Asked
     Asked::Known(Operation::SetChannelGate(channel, number == 1))
 }
 
+#[tactic(auto, unfolding(crate::specs::Asked::query_asked))]
 fn query_asked(code: u8, target: u16) -> Asked
     ensures { result ≡ query_asked code target }
 {
@@ -62,6 +65,7 @@ fn query_asked(code: u8, target: u16) -> Asked
 }
 
 // The codes whose number says nothing.
+#[tactic(auto, unfolding(crate::specs::Asked::bare_asked))]
 fn bare_asked(code: u8, target: u16) -> Asked
     ensures { result ≡ bare_asked code target }
 {
@@ -77,6 +81,7 @@ fn bare_asked(code: u8, target: u16) -> Asked
     query_asked(code, target)
 }
 
+#[tactic(auto, unfolding(crate::specs::Asked::operation_of))]
 pub fn operation_of(code: u8, target: u16, number: u32) -> Asked
     ensures { result ≡ operation_of code target number }
 {

@@ -1,4 +1,6 @@
 // One operation on a board, asked for by three numbers and answered by three: docs/ENCODING.md.
+#![tactic(auto)]
+
 pub mod answering;
 pub mod asked;
 
@@ -7,7 +9,7 @@ pub use asked::operation_of;
 use time::SystemTicks;
 
 // A port and a byte; a channel with a level or a number; ticks; a channel; how many ticks to work off.
-#[derive(Drop)]
+#[derive(Clone, Copy)]
 pub enum Operation {
     WritePort(u16, u8),
     ReadPort(u16),

@@ -5,7 +5,7 @@ ghost use Rattle.channel_operation.specs.Asked.{write_asked, gate_asked, control
 use crate::Operation;
 use channel::PitType;
 
-#[derive(Drop)]
+#[derive(Clone, Copy)]
 pub enum Asked {
     Known(Operation),
     // No such code, or a number or setting that it does not allow.

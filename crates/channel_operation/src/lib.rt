@@ -1,4 +1,6 @@
 // One operation on one channel, asked for by three numbers and answered by three: docs/ENCODING.md.
+#![tactic(auto)]
+
 pub mod asked;
 pub mod making;
 
@@ -7,7 +9,7 @@ use channel::PitType;
 pub use making::operate;
 
 // A byte and the board's defer flag; a level; a control byte and the board's model.
-#[derive(Drop)]
+#[derive(Clone, Copy)]
 pub enum Operation {
     WriteByte(u8, bool),
     ReadByte,

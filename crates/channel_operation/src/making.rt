@@ -8,7 +8,7 @@ use channel::{Channel, PitType};
 use control::{Command, ReadBackWord};
 
 // The three numbers are 0 where the operation does not answer.
-#[derive(Drop)]
+#[derive(Clone, Copy)]
 pub struct Made {
     pub channel: Channel,
     pub first: u16,

@@ -1,6 +1,6 @@
 -- If the check passes, a replay from a checkpoint prints what the replay from the start prints from there. The trace can be written down: every trace that is read from bytes
 -- can (`only-form`). Assumes nothing.
-use Prim.Native.Nat.{ℕ, zero, suc, ◌+◌, ◌*◌, ◌≤◌, ◌<◌}
+use Prim.Native.Nat.{ℕ, suc, ◌+◌, ◌*◌, ◌≤◌, ◌<◌}
 use mathlib.Core.Bool.{Bool, true, false, cond}
 use mathlib.Core.List.{List, [], ◌∷◌, ◌++◌, append_assoc}
 use mathlib.Core.Path.{◌≡◌, refl, sym, ap, subst, ◌∙◌}
@@ -13,10 +13,9 @@ use borrow.Author.Tests.{lt-ltb}
 use Rattle.board.specs.declared.Board.{Board}
 use Rattle.board.specs.Making.{fresh}
 use Rattle.board_encoding.specs.Stored.{board_bytes}
-use Rattle.board_encoding.specs.Loaded.{board_readable, board_in}
 use Rattle.trace.specs.declared.operation.Operation.{Operation}
 use Rattle.trace.specs.Judgement.{Judgement, sound}
-use Rattle.trace.specs.Sizes.{checkpoint_every, checkpoints_of}
+use Rattle.trace.specs.Sizes.{checkpoints_of}
 use Rattle.trace.specs.Operation.{place_of}
 use Rattle.trace.specs.Trace.{Trace, read_trace}
 use Rattle.trace.specs.Bytes.{trace_bytes, Writable}

@@ -2,7 +2,7 @@
 use Prim.Native.Nat.{ℕ, suc, ◌+◌, ◌-◌, ◌*◌, ◌<◌, ◌≤◌}
 use mathlib.Core.Bool.{Bool, true, false, not}
 use mathlib.Core.List.{List, ◌++◌}
-use mathlib.Core.Path.{◌≡◌, refl, sym, ap, subst, ◌∙◌}
+use mathlib.Core.Path.{◌≡◌, refl, sym, ap, ◌∙◌}
 use native.Mathlib.Nat.{zero-add}
 use native.Mathlib.Omega.{arith}
 use lib.Dec.{ltb}
@@ -21,10 +21,10 @@ use Rattle.line.specs.Line.{line_room}
 use Rattle.line.specs.Lines.{fault_line, end_line}
 use Rattle.runner.specs.declared.Form.TheVariants.{Lines}
 use Rattle.runner.specs.Printed.{told_from}
-use Rattle.runner.specs.Lent.{Replaying, in_room}
+use Rattle.runner.specs.Lent.{in_room}
 use Rattle.runner.specs.Inner.{found_from}
 use Rattle.checkpoint.specs.Boards.{operations_to, board_part, checkpoint_bytes, checkpoints_in}
-use Rattle.checkpoint.specs.From.{start_at, start_checked, lines_from, from_text}
+use Rattle.checkpoint.specs.From.{start_at, start_checked, lines_from}
 use Rattle.checkpoint.specs.Inner.{trace_found, lines_found, from_found}
 use Rattle.checkpoint.proofs.Found.{found-length, found_drop}
 

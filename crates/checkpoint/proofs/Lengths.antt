@@ -1,9 +1,9 @@
 -- How many bytes section three and a marked trace have. Assumes nothing.
-use Prim.Native.Nat.{ℕ, zero, suc, ◌+◌, ◌*◌, ◌≤◌}
+use Prim.Native.Nat.{ℕ, zero, suc, ◌*◌, ◌≤◌}
 use mathlib.Core.List.{List}
 use mathlib.Core.Path.{◌≡◌, refl}
 use native.Mathlib.Omega.{arith}
-use lib.ListN.{length, take, length-append}
+use lib.ListN.{length, length-append}
 use lib.Seq.{length-take-le}
 use Rattle.board_encoding.specs.Places.{board_size}
 use Rattle.board_encoding.proofs.Length.{bytes-length}
@@ -11,7 +11,7 @@ use Rattle.trace.specs.Sizes.{checkpoints_of}
 use Rattle.trace.specs.Operation.{place_of}
 use Rattle.trace.specs.Section.{section_end}
 use Rattle.trace.specs.Trace.{Trace}
-use Rattle.checkpoint.specs.Boards.{size, checkpoint, boards_from, section_of}
+use Rattle.checkpoint.specs.Boards.{size, checkpoint, boards_from}
 use Rattle.checkpoint.specs.Mark.{marked_as}
 
 pub boards-length : (t : Trace) (k left : ℕ) → length (boards_from t k left) ≡ board_size * left

@@ -1,28 +1,25 @@
 -- A marked trace is read as the same trace, passes the full check, and is not changed by marking it again. Assumes nothing.
-use Prim.Native.Nat.{ℕ, zero, suc, ◌+◌, ◌*◌, ◌≤◌, ◌<◌}
-use mathlib.Core.Bool.{true, false}
-use mathlib.Core.List.{List, [], ◌∷◌, ◌++◌, append_assoc}
-use mathlib.Core.Path.{◌≡◌, refl, sym, ap, subst, ◌∙◌}
+use Prim.Native.Nat.{ℕ, zero, suc, ◌+◌, ◌*◌, ◌<◌}
+use mathlib.Core.List.{List, ◌++◌, append_assoc}
+use mathlib.Core.Path.{◌≡◌, sym, ap, subst, ◌∙◌}
 use native.Mathlib.Nat.{zero-add, add-zero}
 use native.Mathlib.Omega.{arith}
-use lib.ListN.{length, get_or, take, drop, length-append}
-use lib.Seq.{take_at, drop_at, take-append-le, drop-append-add, get_or-append-add}
-use borrow.Author.Tests.{lt-ltb, le-ltb, eq-eqb}
-use Rattle.numbers.specs.Number.{number_at}
+use lib.ListN.{length, take, drop, length-append}
+use lib.Seq.{take_at, drop-append-add}
+use borrow.Author.Tests.{lt-ltb}
 use Rattle.numbers.specs.Little.{four_bytes}
-use Rattle.numbers.proofs.Little.{long-back}
 use Rattle.board_encoding.specs.Places.{board_size}
 use Rattle.board_encoding.specs.Stored.{board_bytes}
 use Rattle.board_encoding.proofs.Length.{bytes-length}
-use Rattle.trace.specs.Judgement.{Judgement, sound, and_then}
+use Rattle.trace.specs.Judgement.{sound}
 use Rattle.trace.specs.Sizes.{checkpoints_of}
 use Rattle.trace.specs.Operation.{place_of}
-use Rattle.trace.specs.Section.{checkpoint_place, section_end, section_three}
+use Rattle.trace.specs.Section.{checkpoint_place, section_end}
 use Rattle.trace.specs.Trace.{Trace, read_trace}
 use Rattle.trace.specs.Bytes.{AllBytes, trace_bytes, behind, counted, Writable}
 use Rattle.trace.proofs.Back.{trace-long, read-back-with}
 use Rattle.trace.proofs.Only.{only-form}
-use Rattle.checkpoint.specs.Boards.{size, checkpoint, boards_from, section_of, checkpoint_bytes, checkpoints_in}
+use Rattle.checkpoint.specs.Boards.{size, checkpoint, boards_from, section_of, checkpoints_in}
 use Rattle.checkpoint.specs.Check.{check}
 use Rattle.checkpoint.specs.Mark.{marked_as, mark}
 use Rattle.checkpoint.proofs.Lengths.{boards-length}

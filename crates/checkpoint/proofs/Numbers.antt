@@ -1,5 +1,4 @@
 -- How many checkpoints some numbers of operations have, where they stand, and how long a trace is at most: document 02's "each 256 operations", "rounded down". Assumes nothing.
-use Prim.Native.Nat.{ℕ}
 use mathlib.Core.Path.{◌≡◌, refl}
 use Rattle.trace.specs.Sizes.{checkpoints_of, longest_trace}
 use Rattle.trace.specs.Section.{checkpoint_place, section_end}

@@ -1,19 +1,18 @@
 -- What a sound section three says of the bytes: the boards of its checkpoints stand whole in them. Assumes nothing.
-use Prim.Native.Nat.{ℕ, ◌+◌, ◌*◌, ◌≤◌, ◌<◌}
+use Prim.Native.Nat.{ℕ, ◌+◌}
 use mathlib.Core.Bool.{Bool, true, false, not, cond}
 use mathlib.Core.List.{List}
-use mathlib.Core.Path.{◌≡◌, refl, sym, subst}
+use mathlib.Core.Path.{◌≡◌, refl, subst}
 use native.Mathlib.Omega.{arith}
 use lib.Dec.{ltb, eqb}
 use lib.ListN.{length}
 use borrow.Author.Tests.{ltb-false}
 use Rattle.channel.proofs.Pick.{pick-knowing}
 use Rattle.numbers.specs.Number.{number_at}
-use Rattle.board_encoding.specs.Places.{board_size}
 use Rattle.trace.specs.Judgement.{Judgement, sound}
 use Rattle.trace.specs.Sizes.{checkpoints_of}
 use Rattle.trace.specs.Operation.{place_of}
-use Rattle.trace.specs.Section.{checkpoint_place, section_end, section_three}
+use Rattle.trace.specs.Section.{section_end, section_three}
 use Rattle.trace.proofs.Values.{OfSound}
 use Rattle.checkpoint.specs.Boards.{checkpoints_in}
 use Rattle.checkpoint.specs.Inner.{Standing}

@@ -21,7 +21,7 @@ use trace::section::checkpoint_place;
 use trace::{CHECKPOINT_EVERY, Fault, Within};
 
 // What the full check comes to: how many checkpoints there are, all right, or the trace's fault.
-#[derive(Drop)]
+#[derive(Clone, Copy)]
 pub enum Checked {
     Right(u32),
     Refused(Fault),

@@ -1,5 +1,7 @@
 // Checkpoints beside a trace: the board after each 256 operations, in section three. They are compared with the trace (checking.rt), made (marking.rt), and a replay begins
 // at one of them (starting.rt).
+#![tactic(auto)]
+
 pub mod checking;
 pub mod marking;
 pub mod starting;

@@ -23,7 +23,7 @@ use trace::section::checkpoint_place;
 use trace::{CHECKPOINT_EVERY, Fault, Within};
 
 // Whether a replay can begin at a checkpoint, or why not.
-#[derive(Drop)]
+#[derive(Clone, Copy)]
 pub enum Start {
     There,
     Refused(Fault),

@@ -1,4 +1,6 @@
 // The byte form of a channel's record: docs/ENCODING.md.
+#![tactic(auto)]
+
 mod codes;
 pub mod loading;
 mod storing;

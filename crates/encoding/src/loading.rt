@@ -8,7 +8,7 @@ use crate::{CHANNEL_SIZE, codes};
 use channel::{Channel, ChannelMode, ControlWord, Counter, Latch, Load, Pins, Reloading, Status};
 
 // What loading a channel finds.
-#[derive(Drop)]
+#[derive(Clone, Copy)]
 pub enum Loaded {
     Whole(Channel),
     // Fewer bytes than a record has.
@@ -81,6 +81,7 @@ fn load_spelled(bytes: &[u8]) -> Load
     }
 }
 
+#[tactic(auto, unfolding(numbers::specs::Number::number_at))]
 fn counter_spelled(bytes: &[u8]) -> Counter
     requires { channel_size ≤ length bytes.now }
     ensures { result ≡ counter_spelled bytes.now }
@@ -129,6 +130,7 @@ fn status_spelled(bytes: &[u8]) -> Status
     }
 }
 
+#[tactic(auto, unfolding(crate::specs::Loaded::channel_spelled))]
 fn channel_spelled(bytes: &[u8]) -> Channel
     requires { channel_size ≤ length bytes.now }
     ensures { result ≡ channel_spelled bytes.now }
@@ -163,6 +165,7 @@ pub fn record_in(bytes: &[u8]) -> Channel
     channel_spelled(bytes)
 }
 
+#[tactic(auto, unfolding(crate::specs::Loaded::load_channel))]
 pub fn load_channel(bytes: &[u8]) -> Loaded
     ensures { result ≡ load_channel bytes.now }
 {

@@ -98,6 +98,7 @@ fn status_bytes(c: Channel) -> [u8; 2]
     [s.status_latch, numbers::flag_byte(s.null_count)]
 }
 
+#[tactic(auto, unfolding(crate::specs::Stored::channel_bytes))]
 pub fn channel_bytes(c: Channel) -> [u8; CHANNEL_SIZE]
     ensures { result ≡ channel_bytes c }
 {
@@ -117,12 +118,13 @@ pub fn channel_bytes(c: Channel) -> [u8; CHANNEL_SIZE]
 }
 
 // Whether they fit. Where not, the buffer stays as it was.
+#[tactic(auto, unfolding(crate::specs::Front::put_front))]
 pub fn put_front(bytes: &mut [u8], front: &[u8]) -> bool
     ensures { (result ≡ fits (length front.now) bytes.old) × (bytes.new ≡ put_front front.now bytes.old) }
 {
     if bytes.len() < front.len() {
         return false;
     }
-    bytes::copy(front, bytes);
+    bytes[..front.len()].copy_from_slice(front);
     true
 }

@@ -8,7 +8,7 @@ use turn::finding;
 use turn::finding::Turn;
 
 // What can be asked of a channel.
-#[derive(Drop)]
+#[derive(Clone, Copy)]
 pub enum Query {
     OutputState,
     ChannelCount,
@@ -16,7 +16,7 @@ pub enum Query {
     IsDirty,
 }
 
-#[derive(Drop)]
+#[derive(Clone, Copy)]
 pub enum Part {
     Turned(Turn),
     // A channel of the board, and what is asked of it.

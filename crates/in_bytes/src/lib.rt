@@ -3,6 +3,8 @@
 //
 // The parts stand here, taken out of the bytes and put back. finding.rt finds the part that an operation is about, working.rt does the operation. The rules themselves are those of
 // `turn`, `clock`, `ports` and `owed`, which know nothing of bytes. loading.rt takes the whole board out, for a replay from a checkpoint.
+#![tactic(auto)]
+
 pub mod finding;
 pub mod loading;
 pub mod working;

@@ -23,7 +23,7 @@ use time::SystemTicks;
 use turn::finding::{Turn, Work};
 
 // What a call comes to, before its answer is written.
-#[derive(Drop)]
+#[derive(Clone, Copy)]
 pub enum Called {
     // Fewer bytes than a board has.
     Short,

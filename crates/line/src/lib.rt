@@ -1,4 +1,6 @@
 // The lines of a replay, by value: document 01, "Recorded traces".
+#![tactic(auto)]
+
 pub mod operation;
 pub mod sentence;
 
@@ -18,7 +20,7 @@ use trace::{Fault, Within};
 pub const LINE_ROOM: usize = 64;
 
 // Bytes of a line and then zeros; the line ends at len.
-#[derive(Drop)]
+#[derive(Clone, Copy)]
 pub struct Line {
     pub bytes: [u8; LINE_ROOM],
     pub len: usize,

@@ -9,7 +9,7 @@ use channel::PitType;
 use time::SystemTicks;
 use trace::Fault;
 
-#[derive(Drop)]
+#[derive(Clone, Copy)]
 pub enum Sentence {
     // Model and divisor.
     Head(PitType, u32),

@@ -1,16 +1,13 @@
 -- A board that is made: an answer that is no refusal has number 0. Assumes nothing.
-use mathlib.Core.List.{[], ◌∷◌}
 use mathlib.Core.Path.{◌≡◌, refl}
-use types.Run.{OneOf, miss}
-use denote.Enum.Declared.{tag_of}
+use Rattle.refusal.specs.declared.Refusal.{Refusal}
 use Rattle.refusal.specs.Reply.{number_in}
 use Rattle.board.specs.declared.Answer.{Answer}
 use Rattle.board.specs.declared.Answer.TheVariants.{Refused, Done, Place, Byte, Ticks, OutputState, Count, Retriggers, Dirty, Worked}
 use Rattle.board.specs.Answer.{reply_of}
-use Rattle.board.specs.contracts.Answer.{the_type}
 
-pub not-refused : (a : Answer) → OneOf (1 ∷ 2 ∷ 3 ∷ 4 ∷ 5 ∷ 6 ∷ 7 ∷ 8 ∷ 9 ∷ []) (tag_of the_type a) → number_in (reply_of a) ≡ 0
-not-refused (Refused refusal) other = absurd (miss (1 ∷ 2 ∷ 3 ∷ 4 ∷ 5 ∷ 6 ∷ 7 ∷ 8 ∷ 9 ∷ []) 0 tt other)
+pub not-refused : (a : Answer) → ((refusal : Refusal) → a ≡ Refused refusal → ⊥) → number_in (reply_of a) ≡ 0
+not-refused (Refused refusal) other = absurd (other refusal refl)
 not-refused Done other = refl
 not-refused (Place p) other = refl
 not-refused (Byte x) other = refl

@@ -18,8 +18,7 @@ fn answered(numbers: Numbers, answer: &mut [u8])
     encoding::put_front(answer, &said);
 }
 
-#[unsafe(no_mangle)]
-pub extern "C" fn pit_board_operation(
+pub fn pit_board_operation(
     bytes: &mut [u8],
     events: &mut [u8],
     answer: &mut [u8],
@@ -46,8 +45,7 @@ pub extern "C" fn pit_board_operation(
     }
 }
 
-#[unsafe(no_mangle)]
-pub extern "C" fn pit_board_new(bytes: &mut [u8], model: u8, divisor: u32) -> u32
+pub fn pit_board_new(bytes: &mut [u8], model: u8, divisor: u32) -> u32
     ensures { (result ≡ new_status model divisor bytes.old) × (bytes.new ≡ new_after model divisor bytes.old) }
 {
     if bytes.len() < BOARD_SIZE {

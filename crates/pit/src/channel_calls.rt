@@ -13,7 +13,7 @@ use encoding::loading::Loaded;
 pub const CHANNEL_ANSWER_SIZE: usize = 1 + 2 + 2 + 2;
 
 // What an operation comes to, before anything is stored.
-#[derive(Drop)]
+#[derive(Clone, Copy)]
 pub enum Outcome {
     Refused(u32),
     Done(Made),
@@ -65,8 +65,7 @@ fn write_back(bytes: &mut [u8], answer: &mut [u8], made: Made)
     encoding::put_front(answer, &answered);
 }
 
-#[unsafe(no_mangle)]
-pub extern "C" fn pit_channel_operation(
+pub fn pit_channel_operation(
     bytes: &mut [u8],
     answer: &mut [u8],
     code: u8,
@@ -86,8 +85,7 @@ pub extern "C" fn pit_channel_operation(
     }
 }
 
-#[unsafe(no_mangle)]
-pub extern "C" fn pit_channel_fresh(bytes: &mut [u8]) -> u32
+pub fn pit_channel_fresh(bytes: &mut [u8]) -> u32
     ensures { (result ≡ fresh_status bytes.old) × (bytes.new ≡ fresh_after bytes.old) }
 {
     let fresh = encoding::channel_bytes(Channel::fresh());

@@ -1,5 +1,7 @@
-// What a host that is not written in Rattle links: a channel's record or a board in bytes, one operation at a time, and whole traces. docs/ENCODING.md
-// has the byte forms and the numbers returned.
+// What a host calls: a channel's record or a board in bytes, one operation at a time, and whole traces. docs/ENCODING.md has the byte forms and the
+// numbers returned. The crate `pit_c` exports these functions to hosts that are not written in Rattle.
+#![tactic(auto)]
+
 mod answering;
 pub mod board_calls;
 pub mod channel_calls;

@@ -42,8 +42,7 @@ fn settle(replayed: Replayed, answer: &mut [u8]) -> u32
     }
 }
 
-#[unsafe(no_mangle)]
-pub extern "C" fn pit_replay(trace: &[u8], out: &mut [u8], answer: &mut [u8]) -> u32
+pub fn pit_replay(trace: &[u8], out: &mut [u8], answer: &mut [u8]) -> u32
     ensures { replay_called result out.new answer.new ≡ replay_call (replay_into trace.now out.old) out.old answer.old }
 {
     if answer.len() < BOARD_ANSWER_SIZE {
@@ -53,8 +52,7 @@ pub extern "C" fn pit_replay(trace: &[u8], out: &mut [u8], answer: &mut [u8]) ->
     settle(replayed, answer)
 }
 
-#[unsafe(no_mangle)]
-pub extern "C" fn pit_answers(trace: &[u8], out: &mut [u8], answer: &mut [u8]) -> u32
+pub fn pit_answers(trace: &[u8], out: &mut [u8], answer: &mut [u8]) -> u32
     ensures { replay_called result out.new answer.new ≡ replay_call (answers_into trace.now out.old) out.old answer.old }
 {
     if answer.len() < BOARD_ANSWER_SIZE {
@@ -64,13 +62,7 @@ pub extern "C" fn pit_answers(trace: &[u8], out: &mut [u8], answer: &mut [u8]) -
     settle(answered, answer)
 }
 
-#[unsafe(no_mangle)]
-pub extern "C" fn pit_replay_from(
-    trace: &[u8],
-    out: &mut [u8],
-    answer: &mut [u8],
-    checkpoint: u32,
-) -> u32
+pub fn pit_replay_from(trace: &[u8], out: &mut [u8], answer: &mut [u8], checkpoint: u32) -> u32
     ensures { replay_called result out.new answer.new ≡ replay_call (replay_from_into trace.now checkpoint out.old) out.old answer.old }
 {
     if answer.len() < BOARD_ANSWER_SIZE {
@@ -80,8 +72,7 @@ pub extern "C" fn pit_replay_from(
     settle(replayed, answer)
 }
 
-#[unsafe(no_mangle)]
-pub extern "C" fn pit_check(trace: &[u8], out: &mut [u8], answer: &mut [u8]) -> u32
+pub fn pit_check(trace: &[u8], out: &mut [u8], answer: &mut [u8]) -> u32
     ensures { replay_called result out.new answer.new ≡ replay_call (check_into trace.now out.old) out.old answer.old }
 {
     if answer.len() < BOARD_ANSWER_SIZE {
@@ -91,8 +82,7 @@ pub extern "C" fn pit_check(trace: &[u8], out: &mut [u8], answer: &mut [u8]) -> 
     settle(checked, answer)
 }
 
-#[unsafe(no_mangle)]
-pub extern "C" fn pit_mark(trace: &[u8], out: &mut [u8], answer: &mut [u8]) -> u32
+pub fn pit_mark(trace: &[u8], out: &mut [u8], answer: &mut [u8]) -> u32
     ensures { replay_called result out.new answer.new ≡ replay_call (mark_into trace.now out.old) out.old answer.old }
 {
     if answer.len() < BOARD_ANSWER_SIZE {

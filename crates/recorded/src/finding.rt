@@ -8,6 +8,7 @@ use turn::finding;
 use turn::finding::Turn;
 
 // For a board of a model that owes ticks, or owes none. Reads, counts and load cycles are the same on all.
+#[tactic(auto, unfolding(crate::specs::Finding::turn_of))]
 pub fn turn_of(operation: Operation, owing: bool, model: PitType) -> Turn
     ensures { Finds (turn_of owing model operation) result }
 {

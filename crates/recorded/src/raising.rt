@@ -12,7 +12,7 @@ use channel::Channel;
 use event::Placed;
 
 // The new place, and the two lent bytes after the event, in six places.
-#[derive(Drop)]
+#[derive(Clone, Copy)]
 pub struct Raised {
     pub answer: Answer,
     pub events: [u8; 6],

@@ -1,5 +1,5 @@
 -- What a read answers stands in bytes of its own: docs/ENCODING.md, "8 the byte, 9 its half, 10 1 if it was held, 11 0". Assumes nothing.
-use Prim.Native.Nat.{ℕ, ◌+◌, ◌*◌, ◌<◌}
+use Prim.Native.Nat.{◌+◌, ◌*◌, ◌<◌}
 use mathlib.Core.Bool.{Bool, true, false}
 use mathlib.Core.List.{[], ◌∷◌}
 use mathlib.Core.Path.{◌≡◌}

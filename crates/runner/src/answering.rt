@@ -10,7 +10,7 @@ use time::SystemTicks;
 pub(crate) const TRACE_ANSWER_SIZE: usize = 1 + 1 + 6 + 4 + 4;
 
 // The refusal's number, how many event bytes were written, and what was read, the ticks yielded or the ticks made; each 0 where there is none.
-#[derive(Drop)]
+#[derive(Clone, Copy)]
 pub struct Said {
     pub refusal: u8,
     pub written: u8,

@@ -14,7 +14,7 @@ use trace::head::Judged;
 // What comes of a replay into lent bytes: how many bytes were written to their front, the trace's refusal and the operation that it
 // names, or too few bytes lent. But for the first
 // no lent byte changes.
-#[derive(Drop)]
+#[derive(Clone, Copy)]
 pub enum Replayed {
     Written(usize),
     Refused(Refusal, Within),

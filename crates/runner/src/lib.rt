@@ -2,6 +2,8 @@
 //
 // `tell` is the runner: one loop that owns the board and changes it where it stands. No function that the loop calls takes or hands back a board, and each arm ends in its
 // own `say`: arms that meet would have the board moved. answering.rt has an answer in bytes, lending.rt replays into lent bytes of any length.
+#![tactic(auto)]
+
 mod answering;
 pub mod lending;
 
@@ -37,7 +39,7 @@ use turn::finding::{Turn, Work};
 pub const TEXT_ROOM: usize = LINE_ROOM * (MOST_OPERATIONS as usize + 2);
 
 // What is said of each operation: its line, its answer in bytes, or nothing.
-#[derive(Drop)]
+#[derive(Clone, Copy)]
 pub enum Form {
     Lines,
     Answers,
@@ -45,7 +47,7 @@ pub enum Form {
 }
 
 // The board after the operations, and the place behind what was said of them.
-#[derive(Drop)]
+#[derive(Clone, Copy)]
 pub struct Told {
     pub board: Board,
     pub place: usize,

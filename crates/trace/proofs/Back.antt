@@ -1,7 +1,7 @@
 -- A trace that can be written down is read back from its bytes, with any section three of the form behind them or with none, so that equal bytes are of equal traces.
 -- Assumes nothing.
 use Prim.Native.Nat.{ℕ, suc, ◌+◌, ◌*◌, ◌<◌, ◌≤◌}
-use mathlib.Core.Path.{◌≡◌, refl, sym, subst}
+use mathlib.Core.Path.{◌≡◌, refl, sym, ap, subst}
 use mathlib.Core.Bool.{true, false}
 use mathlib.Core.List.{List, [], ◌∷◌, ◌++◌, append_assoc, append-nil}
 use native.Mathlib.Omega.{arith}
@@ -98,16 +98,25 @@ operations-long (o ∷ os) =
     let first = six-long o in
     simp (length-append) (omega arith)
 
+-- the first operation, then the others
+one-then : (bytes : List ℕ) (i n : ℕ) (o : Operation) (os : List Operation) → operation_at bytes i ≡ sound o
+    → operations_from bytes (suc i) n ≡ sound os → operations_from bytes i (suc n) ≡ sound (o ∷ os)
+one-then bytes i n o os first others = rw first (rw others refl)
+
 operations-back : (front : List ℕ) (i : ℕ) (os : List Operation) (rest : List ℕ) → length front ≡ place_of i → AllHold os
     → operations_from (front ++ (operations_bytes os ++ rest)) i (length os) ≡ sound os
 operations-back front i [] rest e h = refl
 operations-back front i (o ∷ os) rest e h =
     let longer = length-append front (operation_bytes o) in
     let six = six-long o in
-    rw (append_assoc (operation_bytes o) (operations_bytes os) rest)
-    (rw (operation-back front (operations_bytes os ++ rest) i o e h.0)
-    (rw (sym (append_assoc front (operation_bytes o) (operations_bytes os ++ rest)))
-    (rw (operations-back (front ++ operation_bytes o) (suc i) os rest (omega arith) h.1) refl)))
+    let more = operations_bytes os ++ rest in
+    let grouped : front ++ (operations_bytes (o ∷ os) ++ rest) ≡ front ++ (operation_bytes o ++ more)
+    = ap (λ (xs : List ℕ). front ++ xs) (append_assoc (operation_bytes o) (operations_bytes os) rest) in
+    let first : operation_at (front ++ (operation_bytes o ++ more)) i ≡ sound o = operation-back front more i o e h.0 in
+    let others : operations_from (front ++ (operation_bytes o ++ more)) (suc i) (length os) ≡ sound os
+    = subst (λ (xs : List ℕ). operations_from xs (suc i) (length os) ≡ sound os) (append_assoc front (operation_bytes o) more)
+    (operations-back (front ++ operation_bytes o) (suc i) os rest (omega arith) h.1) in
+    subst (λ (xs : List ℕ). operations_from xs i (suc (length os)) ≡ sound (o ∷ os)) (sym grouped) (one-then _ i (length os) o os first others)
 
 -- a number behind other bytes
 number_behind : (front rest : List ℕ) (n : ℕ) → n < 4294967296 → (place : ℕ) → length front ≡ place → number_at (front ++ (four_bytes n ++ rest)) place ≡ n

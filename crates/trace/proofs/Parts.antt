@@ -2,7 +2,7 @@
 use mathlib.Core.Path.{◌≡◌, refl, ap, sym, ◌∙◌}
 use mathlib.Core.Bool.{Bool, true, false, cond, false≢true}
 use mathlib.Core.List.{List, [], ◌∷◌, ◌++◌, map}
-use mathlib.Core.Logic.{◌⊎◌, inl, inr, ⊎_elim, ◌↔◌}
+use mathlib.Core.Logic.{inl, inr, ⊎_elim, ◌↔◌}
 use Rattle.trace.specs.Judgement.{Judgement, Faulted, refused_by, sound, and_then}
 use Rattle.trace.specs.Refusals.{Row, FirstAt, only}
 use Rattle.trace.proofs.Values.{not-refused, again}

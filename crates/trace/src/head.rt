@@ -8,7 +8,7 @@ use channel::PitType;
 use numbers::number_at;
 use refusal::Refusal;
 
-#[derive(Drop)]
+#[derive(Clone, Copy)]
 pub struct Head {
     pub divisor: u32,
     pub model: PitType,
@@ -16,7 +16,7 @@ pub struct Head {
     pub operations: u32,
 }
 
-#[derive(Drop)]
+#[derive(Clone, Copy)]
 pub enum Judged {
     Sound(Head),
     Refused(Fault),
@@ -33,6 +33,7 @@ fn refused(refusal: Refusal, place: usize) -> Judged
 }
 
 // Refusals 9, 10, 3, 21 and 11.
+#[tactic(auto, unfolding(crate::specs::Head::read_head))]
 pub fn read_head(bytes: &[u8]) -> Judged
     ensures { head_judged result ≡ read_head bytes.now }
 {

@@ -2,6 +2,8 @@
 //
 // The form is checked from the front in three parts: the head (head.rt), each operation (operation.rt, by the rules of rule.rt) and the checkpoints behind the
 // last one, if there are any (section.rt). judging.rt puts them together.
+#![tactic(auto)]
+
 pub mod head;
 mod judging;
 pub mod operation;
@@ -36,7 +38,7 @@ pub const LONGEST_TRACE: usize = OPERATIONS_END
     + BOARD_SIZE * ((MOST_OPERATIONS / CHECKPOINT_EVERY) as usize);
 
 // Whether a fault stands inside an operation, all of whose bytes are there, and the index of that operation, counted from 0.
-#[derive(Drop)]
+#[derive(Clone, Copy)]
 pub enum Within {
     Outside,
     InOperation(u32),
@@ -44,7 +46,7 @@ pub enum Within {
 
 // Why a trace is refused, and where: at the place of the field that breaks its rule, at the whole length where bytes are missing, at the first byte
 // too many.
-#[derive(Drop)]
+#[derive(Clone, Copy)]
 pub struct Fault {
     pub refusal: Refusal,
     pub place: usize,

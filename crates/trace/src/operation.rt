@@ -11,7 +11,7 @@ use refusal::Refusal;
 use time::SystemTicks;
 
 // Ports and channels are as the trace has them: a bad one is refused when it is run.
-#[derive(Drop)]
+#[derive(Clone, Copy)]
 pub enum Operation {
     // Port and byte.
     WritePort(u8, u8),
@@ -30,7 +30,7 @@ pub enum Operation {
     WorkOff(u32),
 }
 
-#[derive(Drop)]
+#[derive(Clone, Copy)]
 pub enum OperationJudged {
     Sound(Operation),
     Refused(Fault),
@@ -81,6 +81,7 @@ fn inside(index: u32, refusal: Refusal, place: usize) -> OperationJudged
 
 // The operation of an index, whatever the trace says of its number of operations. Refusals 9, 12, 19, 20 and 21. One that is not wholly there has no index to name: its
 // refusal is the trace's end.
+#[tactic(auto, unfolding(crate::specs::Operation::operation_at))]
 pub fn operation_at(bytes: &[u8], index: u32) -> OperationJudged
     ensures { operation_judged result ≡ operation_at bytes.now index }
 {
@@ -107,6 +108,7 @@ pub fn operation_at(bytes: &[u8], index: u32) -> OperationJudged
 
 // The operation of an index of a sound trace. It is no judgement: the runner asks after the whole trace was judged, and a judgement around each operation would
 // be put together and taken apart for nothing. Where bytes are missing, a reset stands for it.
+#[tactic(auto, unfolding(crate::specs::Operation::operation_in))]
 pub fn operation_in(bytes: &[u8], index: u32) -> Operation
     ensures { result ≡ operation_in bytes.now index }
 {

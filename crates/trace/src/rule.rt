@@ -3,7 +3,7 @@ ghost use Rattle.std.specs.Prelude.{◌≡◌};
 ghost use Rattle.trace.specs.Rule.{target_broken, zero_broken, size_broken, broken_rule};
 
 // The first rule that an operation breaks.
-#[derive(Drop)]
+#[derive(Clone, Copy)]
 pub enum Rule {
     None,
     Code,

@@ -13,7 +13,7 @@ use numbers::number_at;
 use refusal::Refusal;
 
 // The first fault, if there is one.
-#[derive(Drop)]
+#[derive(Clone, Copy)]
 pub(crate) enum Found {
     Fault(Fault),
     None,
@@ -51,6 +51,7 @@ pub fn section_begun(bytes: &[u8], operations: u32) -> bool
 }
 
 // Refusals 9, 17 and 13.
+#[tactic(auto, unfolding(crate::specs::Section::section_three))]
 pub(crate) fn section_three(bytes: &[u8], operations: u32) -> Found
     ensures { fault_judged result ≡ section_three bytes.now operations }
 {

@@ -16,7 +16,7 @@ use trace::{Fault, Within};
 pub const FAULT_ROOM: usize = 160;
 
 // Bytes of a sentence and then zeros; the sentence ends at len.
-#[derive(Drop)]
+#[derive(Clone, Copy)]
 pub struct FaultSentence {
     pub bytes: [u8; FAULT_ROOM],
     pub len: usize,

@@ -1,4 +1,6 @@
 // Refusals, operations and faults in English words, by value: for a person who gets a number, or bytes.
+#![tactic(auto)]
+
 pub mod faults;
 mod operations;
 mod pieces;

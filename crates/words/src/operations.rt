@@ -178,6 +178,7 @@ fn work_off_words(most: u32) -> Line
 }
 
 // The model decides what a byte written to the command port asks for.
+#[tactic(auto, unfolding(crate::specs::Operations::operation_words, line::specs::Line::line_of))]
 pub fn operation_words(model: PitType, operation: Operation) -> Line
     ensures { (result ≡ line_of (operation_words model operation)) × (length (operation_words model operation) ≤ line_room) }
 {

@@ -7,6 +7,7 @@ ghost use Rattle.line.specs.Line.{line_of};
 
 use line::{LINE_ROOM, Line};
 
+#[tactic(auto, unfolding(line::specs::Line::line_of))]
 pub(crate) fn empty() -> Line
     ensures { result ≡ line_of [] }
 {
@@ -49,6 +50,7 @@ pub(crate) fn with_either(line: Line, first: bool, one: &[u8], other: &[u8]) -> 
     with_text(line, other)
 }
 
+#[tactic(auto, unfolding(text::specs::Put::put))]
 pub(crate) fn with_if(line: Line, said: bool, text: &[u8]) -> Line
     ensures { answered result.len result.bytes ≡ put (cond said text.now []) line.bytes line.len }
 {

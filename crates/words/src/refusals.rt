@@ -38,6 +38,7 @@ fn trace_words(number: u8) -> Line
 }
 
 // Of a number that no refusal has there are no words.
+#[tactic(auto, unfolding(crate::specs::Refusals::refusal_words, line::specs::Line::line_of))]
 pub fn words_of(number: u8) -> Line
     ensures { (result ≡ line_of (refusal_words number)) × (length (refusal_words number) ≤ line_room) }
 {

@@ -44,6 +44,7 @@ fn size_words(code: u8) -> Line
     }
 }
 
+#[tactic(auto, unfolding(crate::specs::Faults::rule_words, line::specs::Line::line_of))]
 pub(crate) fn rule_words(number: u8, code: u8) -> Line
     ensures { (result ≡ line_of (rule_words number code)) × (length (rule_words number code) ≤ line_room) }
 {

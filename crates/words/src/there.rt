@@ -57,6 +57,7 @@ fn of_number(number: u8) -> bool
     }
 }
 
+#[tactic(auto, unfolding(crate::specs::Faults::there_words, line::specs::Line::line_of))]
 pub(crate) fn there_words(number: u8, trace: &[u8], place: usize) -> Line
     ensures { (result ≡ line_of (there_words number trace.now place)) × (length (there_words number trace.now place) ≤ there_room) }
 {
