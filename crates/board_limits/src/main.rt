@@ -1,9 +1,11 @@
 // Runs the calls of a board at their limits and prints what each answers and leaves: counts, ticks at the warp and event room, of which
 // document 01 says "Run only", and beside them places at the end of the event bytes and the largest remainder.
+#![tactic(auto)]
+
 use board::{Answer, Board};
 use channel::{Channel, PitType};
-use libc::STDOUT_FILENO;
 use refusal::Refusal;
+use std::io;
 use time::{SystemTicks, TimerTicks};
 
 // Stands in the event bytes before a call, to be seen where nothing is written.
@@ -22,44 +24,31 @@ const ALL_THREE: u8 = 0xCE;
 
 const ASKS_NOTHING: u8 = 0xFE;
 
-fn say(text: &[u8]) {
-    io::write_all(STDOUT_FILENO, text);
-}
-
-fn say_number(text: &[u8], number: u32) {
-    say(text);
-    io::print_decimal(STDOUT_FILENO, number as u64);
-}
-
-fn say_place(text: &[u8], place: usize) {
-    say(text);
-    io::print_decimal(STDOUT_FILENO, place as u64);
-}
-
-fn say_refusal(refusal: Refusal) {
+fn say_refusal(rt: &impl Print, refusal: Refusal) -> io::Result<()> {
     let number = refusal.number();
-    say_number(b"refused ", number as u32);
+    print!(rt; "refused {number}")
 }
 
-fn say_ticks(yielded: TimerTicks) {
-    say_number(b"ticks ", yielded.0);
+fn say_ticks(rt: &impl Print, yielded: TimerTicks) -> io::Result<()> {
+    let number = yielded.0;
+    print!(rt; "ticks {number}")
 }
 
-fn say_answer(answer: Answer) {
+fn say_answer(rt: &impl Print, answer: Answer) -> io::Result<()> {
     match answer {
-        Answer::Refused(refusal) => say_refusal(refusal),
-        Answer::Done => say(b"done"),
-        Answer::Place(place) => say_place(b"place ", place),
-        Answer::Ticks(yielded) => say_ticks(yielded),
-        Answer::Byte(_) => say(b"byte"),
-        Answer::OutputState(_) => say(b"output"),
-        Answer::Count(_) => say(b"count"),
-        Answer::Retriggers(_) => say(b"retriggers"),
-        Answer::Dirty(_, _, _) => say(b"dirty"),
+        Answer::Refused(refusal) => say_refusal(rt, refusal),
+        Answer::Done => print!(rt; "done"),
+        Answer::Place(place) => print!(rt; "place {place}"),
+        Answer::Ticks(yielded) => say_ticks(rt, yielded),
+        Answer::Byte(_) => print!(rt; "byte"),
+        Answer::OutputState(_) => print!(rt; "output"),
+        Answer::Count(_) => print!(rt; "count"),
+        Answer::Retriggers(_) => print!(rt; "retriggers"),
+        Answer::Dirty(_, _, _) => print!(rt; "dirty"),
         Answer::Worked(worked) => {
-            let made = worked.made;
-            say_number(b"made ", made.0);
-            say_place(b", place ", worked.place);
+            let made = worked.made.0;
+            let place = worked.place;
+            print!(rt; "made {made}, place {place}")
         }
     }
 }
@@ -69,29 +58,22 @@ fn fresh() -> Board {
     made.board
 }
 
-fn say_time(b: Board) {
-    let left = b.remainder;
-    say_number(b", left ", left.0);
-    let warp = b.warp;
-    say_number(b", warp ", warp.0);
-    say(b"\n");
+fn say_time(rt: &impl Print, b: Board) -> io::Result<()> {
+    let left = b.remainder.0;
+    let warp = b.warp.0;
+    println!(rt; ", left {left}, warp {warp}")
 }
 
 // In BCD, where 65,536 counts do not come back to their start: from 0 to 4464, which is 17508 as a binary number. One more come to 4463, and the
 // most that a call can be asked for to 2705.
-fn counts(number: u32) {
-    say_number(b"counts ", number);
-    say(b": ");
+fn counts(rt: &impl Print, number: u32) -> io::Result<()> {
     let mut start = fresh();
     start.channels[0].control.bcd_mode = true;
     let r = calls::counts(start, 0, number);
-    let answer = r.answer;
-    say_answer(answer);
-    let b = r.board;
-    let c = b.channels[0];
-    let k = c.counter;
-    say_number(b", element ", k.counting_element as u32);
-    say(b"\n");
+    let element = r.board.channels[0].counter.counting_element;
+    print!(rt; "counts {number}: ")?;
+    say_answer(rt, r.answer)?;
+    println!(rt; ", element {element}")
 }
 
 // A catch-up of 100 first: the warp is then 100, and 4 ticks are left beyond 8 times 12. The 8 are worked off, or a run would be refused for them.
@@ -102,91 +84,68 @@ fn warped() -> Board {
     worked.board
 }
 
-fn run(b: Board, ticks: u32) {
-    say_number(b"run ", ticks);
-    say(b": ");
+fn run(rt: &impl Print, b: Board, ticks: u32) -> io::Result<()> {
     let r = calls::run(b, SystemTicks(ticks));
-    let answer = r.answer;
-    say_answer(answer);
-    let after = r.board;
-    say_time(after);
+    print!(rt; "run {ticks}: ")?;
+    say_answer(rt, r.answer)?;
+    say_time(rt, r.board)
 }
 
 // A board that has 4,294,967,295 - 100 ticks left over, and no warp.
 fn nearly_full() -> Board {
     let mut b = fresh();
-    let left = SystemTicks(4294967195);
-    b.remainder = left;
+    b.remainder = SystemTicks(4294967195);
     b
 }
 
-fn say_bytes(b0: u8, b1: u8, b2: u8, level: bool) {
-    say_number(b", bytes ", b0 as u32);
-    say_number(b" ", b1 as u32);
-    say_number(b" ", b2 as u32);
-    if level {
-        say(b", output 1\n");
-    } else {
-        say(b", output 0\n");
-    }
+fn say_bytes(rt: &impl Print, events: [u8; 3], level: bool) -> io::Result<()> {
+    let [b0, b1, b2] = events;
+    let output = if level { 1 } else { 0 };
+    println!(rt; ", bytes {b0} {b1} {b2}, output {output}")
 }
 
 // A control byte with three event bytes lent.
-fn control(name: &[u8], byte: u8, place: usize) {
-    say(name);
-    say_place(b" at place ", place);
-    say(b" of 3: ");
+fn control(rt: &impl Print, name: &str, byte: u8, place: usize) -> io::Result<()> {
     let mut events = [OLD_BYTE; 3];
     let r = calls::write_port(fresh(), 0x43, byte, &mut events, place);
-    let answer = r.answer;
-    say_answer(answer);
-    let b = r.board;
-    let c = b.channels[0];
-    let p = c.pins;
-    say_bytes(events[0], events[1], events[2], p.output);
+    let output = r.board.channels[0].pins.output;
+    print!(rt; "{name} at place {place} of 3: ")?;
+    say_answer(rt, r.answer)?;
+    say_bytes(rt, events, output)
 }
 
 // A port write where a tick is owed, with three event bytes lent: 16 comes after 1 and before 7.
-fn write_owing(port: u16, place: usize) {
-    say_number(b"write to port ", port as u32);
-    say_place(b" at place ", place);
-    say(b" of 3, a tick owed: ");
+fn write_owing(rt: &impl Print, port: u16, place: usize) -> io::Result<()> {
     let owing = calls::run(fresh(), SystemTicks(12));
     let mut events = [OLD_BYTE; 3];
     let r = calls::write_port(owing.board, port, MODE_2, &mut events, place);
-    let answer = r.answer;
-    say_answer(answer);
-    say(b"\n");
+    print!(rt; "write to port {port} at place {place} of 3, a tick owed: ")?;
+    say_answer(rt, r.answer)?;
+    println!(rt; "")
 }
 
-fn say_held(c: Channel) {
-    let l = c.latch;
-    let s = c.status;
-    if l.count_is_latched {
-        say(b", latched");
+fn say_held(rt: &impl Print, c: Channel) -> io::Result<()> {
+    let held = if c.latch.count_is_latched {
+        "latched"
     } else {
-        say(b", free");
-    }
-    say_number(b" status ", s.status_latch as u32);
+        "free"
+    };
+    let status = c.status.status_latch;
+    print!(rt; ", {held} status {status}")
 }
 
 // A read-back on an 8254, after so many system ticks, with three event bytes lent: 16, then 7, and never 8. What it leaves of the three channels.
-fn read_back(byte: u8, ticks: u32, place: usize) {
-    say_number(b"read-back ", byte as u32);
-    say_number(b" after ", ticks);
-    say_place(b" at place ", place);
-    say(b" of 3: ");
+fn read_back(rt: &impl Print, byte: u8, ticks: u32, place: usize) -> io::Result<()> {
     let made = Board::new(PitType::Model8254, DIVISOR);
     let start = calls::run(made.board, SystemTicks(ticks));
     let mut events = [OLD_BYTE; 3];
     let r = calls::write_port(start.board, 0x43, byte, &mut events, place);
-    let answer = r.answer;
-    say_answer(answer);
-    let b = r.board;
-    say_held(b.channels[0]);
-    say_held(b.channels[1]);
-    say_held(b.channels[2]);
-    say(b"\n");
+    print!(rt; "read-back {byte} after {ticks} at place {place} of 3: ")?;
+    say_answer(rt, r.answer)?;
+    for c in r.board.channels {
+        say_held(rt, c)?;
+    }
+    println!(rt; "")
 }
 
 // Channel 0 in mode 2 with a count of 2, whose output changes with every tick after the first; and so many ticks owed.
@@ -200,20 +159,15 @@ fn pulsing(owed: u32) -> Board {
 }
 
 // Ticks worked off with three event bytes lent.
-fn work(b: Board, stated: u32, place: usize) {
-    say_number(b"work ", stated);
-    say_place(b" at place ", place);
-    say(b" of 3: ");
+fn work(rt: &impl Print, b: Board, stated: u32, place: usize) -> io::Result<()> {
     let mut events = [OLD_BYTE; 3];
     let r = calls::work_off(b, stated, &mut events, place);
-    let answer = r.answer;
-    say_answer(answer);
-    let after = r.board;
-    let left = after.owed;
-    say_number(b", owed ", left.0);
-    let c = after.channels[0];
-    let p = c.pins;
-    say_bytes(events[0], events[1], events[2], p.output);
+    let owed = r.board.owed.0;
+    let output = r.board.channels[0].pins.output;
+    print!(rt; "work {stated} at place {place} of 3: ")?;
+    say_answer(rt, r.answer)?;
+    print!(rt; ", owed {owed}")?;
+    say_bytes(rt, events, output)
 }
 
 fn idling() -> Board {
@@ -221,39 +175,46 @@ fn idling() -> Board {
     r.board
 }
 
-fn working_off() {
-    work(idling(), 65536, 3);
-    work(idling(), 65537, 3);
-    work(idling(), 65537, 4);
-    work(pulsing(5), 0, 0);
-    work(pulsing(0), 5, 0);
-    work(pulsing(5), 5, 0);
-    work(pulsing(5), 5, 1);
-    work(pulsing(5), 5, 2);
-    work(pulsing(1), 5, 2);
+fn working_off(rt: &impl Print) -> io::Result<()> {
+    work(rt, idling(), 65536, 3)?;
+    work(rt, idling(), 65537, 3)?;
+    work(rt, idling(), 65537, 4)?;
+    work(rt, pulsing(5), 0, 0)?;
+    work(rt, pulsing(0), 5, 0)?;
+    work(rt, pulsing(5), 5, 0)?;
+    work(rt, pulsing(5), 5, 1)?;
+    work(rt, pulsing(5), 5, 2)?;
+    work(rt, pulsing(1), 5, 2)
 }
 
-fn main() {
-    counts(65536);
-    counts(65537);
-    counts(4294967295);
-    run(warped(), 100);
-    run(warped(), 99);
-    run(nearly_full(), 100);
-    run(nearly_full(), 101);
-    control(b"mode set", MODE_2, 1);
-    control(b"mode set", MODE_2, 2);
-    control(b"mode set", MODE_2, 3);
-    control(b"mode set", MODE_2, 4);
-    control(b"latch", LATCH, 3);
-    control(b"latch", LATCH, 4);
-    read_back(ALL_THREE, 11, 3);
-    read_back(ALL_THREE, 11, 4);
-    read_back(ALL_THREE, 12, 4);
-    read_back(ASKS_NOTHING, 11, 0);
-    read_back(ASKS_NOTHING, 12, 0);
-    write_owing(0x44, 4);
-    write_owing(0x43, 4);
-    write_owing(0x42, 0);
-    working_off();
+fn counts_and_runs(rt: &impl Print) -> io::Result<()> {
+    counts(rt, 65536)?;
+    counts(rt, 65537)?;
+    counts(rt, 4294967295)?;
+    run(rt, warped(), 100)?;
+    run(rt, warped(), 99)?;
+    run(rt, nearly_full(), 100)?;
+    run(rt, nearly_full(), 101)
+}
+
+fn writes(rt: &impl Print) -> io::Result<()> {
+    for place in 1..5 {
+        control(rt, "mode set", MODE_2, place)?;
+    }
+    control(rt, "latch", LATCH, 3)?;
+    control(rt, "latch", LATCH, 4)?;
+    read_back(rt, ALL_THREE, 11, 3)?;
+    read_back(rt, ALL_THREE, 11, 4)?;
+    read_back(rt, ALL_THREE, 12, 4)?;
+    read_back(rt, ASKS_NOTHING, 11, 0)?;
+    read_back(rt, ASKS_NOTHING, 12, 0)?;
+    write_owing(rt, 0x44, 4)?;
+    write_owing(rt, 0x43, 4)?;
+    write_owing(rt, 0x42, 0)
+}
+
+fn main(rt: HostRuntime) -> io::Result<()> {
+    counts_and_runs(&rt)?;
+    writes(&rt)?;
+    working_off(&rt)
 }

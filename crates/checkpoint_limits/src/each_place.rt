@@ -7,6 +7,7 @@ use crate::making::{byte_at, put_byte, put_marked};
 use crate::readers::{Reader, ask, refused_as, show, written};
 use line::LINE_ROOM;
 use refusal::Refusal;
+use std::io;
 use trace::{Fault, Within};
 
 // Where the first checkpoint of 256 operations begins, and the second of 600.
@@ -22,7 +23,7 @@ fn is_fault(text: &[u8], refusal: Refusal, place: usize) -> bool {
         within: Within::Outside,
     });
     let bytes = line.bytes;
-    check::same(text, first(&bytes, line.len))
+    text == first(&bytes, line.len)
 }
 
 // A line is lent and no more, so of a sound trace a replay says nothing. The reader that marks tells no place.
@@ -39,7 +40,7 @@ fn ends_early(reader: Reader, prefix: &[u8]) -> bool {
     )
 }
 
-fn show_each(reader: Reader, trace: &[u8]) {
+fn show_each(rt: &impl Print, reader: Reader, trace: &[u8]) -> io::Result<()> {
     let mut number = 0;
     let mut n = 0;
     while n <= trace.len() {
@@ -48,19 +49,19 @@ fn show_each(reader: Reader, trace: &[u8]) {
         if ends_early(reader, prefix) {
             number += 1;
         } else {
-            say_count(prefix.len(), b" bytes");
-            show(reader, prefix);
+            say_count(rt, prefix.len(), b" bytes")?;
+            show(rt, reader, prefix)?;
         }
     }
-    say_count(number, b" prefixes refused 9 at their length\n");
+    say_count(rt, number, b" prefixes refused 9 at their length\n")
 }
 
-pub(crate) fn show_prefixes(marked: &[u8]) {
-    show_each(Reader::Replay, marked);
-    show_each(Reader::Check, marked);
-    show_each(Reader::From(0), marked);
-    show_each(Reader::From(1), marked);
-    show_each(Reader::Mark, marked);
+pub(crate) fn show_prefixes(rt: &impl Print, marked: &[u8]) -> io::Result<()> {
+    show_each(rt, Reader::Replay, marked)?;
+    show_each(rt, Reader::Check, marked)?;
+    show_each(rt, Reader::From(0), marked)?;
+    show_each(rt, Reader::From(1), marked)?;
+    show_each(rt, Reader::Mark, marked)
 }
 
 // Whether the check sees so much added to one byte of a checkpoint.
@@ -82,7 +83,7 @@ fn is_seen(marked: &[u8], checkpoint: usize, place: usize, more: u8) -> bool {
 }
 
 // Each byte of a checkpoint is changed to so many other values.
-fn every_byte(marked: &[u8], checkpoint: usize, values: u8)
+fn every_byte(rt: &impl Print, marked: &[u8], checkpoint: usize, values: u8) -> io::Result<()>
     requires { checkpoint < 26373 }
 {
     let number = 111 * (values as usize);
@@ -96,15 +97,15 @@ fn every_byte(marked: &[u8], checkpoint: usize, values: u8)
             seen += 1;
         }
     }
-    say_number(b"checkpoint at ", checkpoint);
-    say(b": ");
-    say_count(seen, b" changes seen\n");
+    say_number(rt, b"checkpoint at ", checkpoint)?;
+    say(rt, b": ")?;
+    say_count(rt, seen, b" changes seen\n")
 }
 
 // Of the checkpoint of 256 operations every byte is changed to every other value, of checkpoint 1 of the trace itself to one.
-pub(crate) fn show_changes(marked: &[u8]) {
+pub(crate) fn show_changes(rt: &impl Print, marked: &[u8]) -> io::Result<()> {
     let mut trace = [0u8; 1667];
     let length = put_marked(marked, 256, &mut trace);
-    every_byte(first(&trace, length), FIRST_OF_256, 255);
-    every_byte(marked, SECOND_OF_600, 1);
+    every_byte(rt, first(&trace, length), FIRST_OF_256, 255)?;
+    every_byte(rt, marked, SECOND_OF_600, 1)
 }

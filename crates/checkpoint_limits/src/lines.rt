@@ -1,20 +1,20 @@
 // Lines: what is printed here, and parts of what a reader wrote.
 ghost use Rattle.std.specs.Prelude.{◌≡◌, ◌≤◌, length, take};
 
-use libc::STDOUT_FILENO;
+use std::io;
 
-pub(crate) fn say(text: &[u8]) {
-    io::write_all(STDOUT_FILENO, text);
+pub(crate) fn say(rt: &impl Print, text: &[u8]) -> io::Result<()> {
+    rt.write_all(text)
 }
 
-pub(crate) fn say_number(text: &[u8], number: usize) {
-    say(text);
-    io::print_decimal(STDOUT_FILENO, number as u64);
+pub(crate) fn say_number(rt: &impl Print, text: &[u8], number: usize) -> io::Result<()> {
+    say(rt, text)?;
+    print!(rt; "{number}")
 }
 
-pub(crate) fn say_count(number: usize, text: &[u8]) {
-    io::print_decimal(STDOUT_FILENO, number as u64);
-    say(text);
+pub(crate) fn say_count(rt: &impl Print, number: usize, text: &[u8]) -> io::Result<()> {
+    print!(rt; "{number}")?;
+    say(rt, text)
 }
 
 // So many bytes, or all where there are fewer.
@@ -47,33 +47,36 @@ fn place_behind(text: &[u8], lines: usize) -> usize
 }
 
 // One of several lines, by its index.
-pub(crate) fn say_line(lines: &[u8], index: usize) {
+pub(crate) fn say_line(rt: &impl Print, lines: &[u8], index: usize) -> io::Result<()> {
     let start = place_behind(lines, index);
     let rest = &lines[start..];
-    say(first(rest, place_behind(rest, 1)));
+    say(rt, first(rest, place_behind(rest, 1)))
 }
 
 // The last byte of a text ends its last line.
-pub(crate) fn say_last_line(text: &[u8]) {
+pub(crate) fn say_last_line(rt: &impl Print, text: &[u8]) -> io::Result<()> {
     let mut start = text.len();
     while 1 < start {
         start -= 1;
         if text[start - 1] == b'\n' {
-            say(&text[start..]);
-            return;
+            return say(rt, &text[start..]);
         }
     }
-    say(text);
+    say(rt, text)
 }
 
 // Says whether a text is another but for so many lines at the front, and is not nothing.
-pub(crate) fn say_alike(text: &[u8], whole: &[u8], lines: usize) {
+pub(crate) fn say_alike(
+    rt: &impl Print,
+    text: &[u8],
+    whole: &[u8],
+    lines: usize,
+) -> io::Result<()> {
     let start = place_behind(whole, lines);
     if 0 < text.len() {
-        if check::same(text, &whole[start..]) {
-            say(b" ok\n");
-            return;
+        if text == &whole[start..] {
+            return say(rt, b" ok\n");
         }
     }
-    say(b" differs\n");
+    say(rt, b" differs\n")
 }

@@ -1,5 +1,7 @@
 // Checkpoints at their limits, for every reader of a trace: the plain replay, the full check, the replay from a checkpoint and the one that marks. The trace on
 // standard input is `marked` of traces/: 600 operations and two checkpoints. Longer and shorter ones are made of its operations.
+#![tactic(auto)]
+
 mod each_place;
 mod form;
 mod lines;
@@ -10,20 +12,24 @@ mod rooms;
 mod sizes;
 mod wrong;
 
-use libc::STDIN_FILENO;
+use std::io;
+use std::io::Read;
 
-fn main() {
-    let mut input = io::buffer();
-    let length = io::read_full(STDIN_FILENO, &mut input);
-    let marked = &input[..length];
-    each_place::show_prefixes(marked);
-    each_place::show_changes(marked);
-    sizes::show_all(marked);
-    form::show_below_256(marked);
-    form::show_from_256(marked);
-    wrong::show_changed(marked);
-    wrong::show_missing(marked);
-    wrong::show_order(marked);
-    older::show_all(marked);
-    rooms::show_all(marked);
+// More than the trace has.
+const MOST_BYTES: u64 = 4096;
+
+fn main(rt: HostRuntime) -> io::Result<()> {
+    let mut input = Vec::new(rt.alloc());
+    rt.reader().take(MOST_BYTES).read_to_end(&mut input)?;
+    let marked = input.as_slice();
+    each_place::show_prefixes(&rt, marked)?;
+    each_place::show_changes(&rt, marked)?;
+    sizes::show_all(&rt, marked)?;
+    form::show_below_256(&rt, marked)?;
+    form::show_from_256(&rt, marked)?;
+    wrong::show_changed(&rt, marked)?;
+    wrong::show_missing(&rt, marked)?;
+    wrong::show_order(&rt, marked)?;
+    older::show_all(&rt, marked)?;
+    rooms::show_all(&rt, marked)
 }

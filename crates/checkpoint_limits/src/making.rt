@@ -11,6 +11,7 @@ use crate::readers::written;
 const ROOM: usize = trace::LONGEST_TRACE + 1;
 
 // An array from a call, which tells its length: of one made in place the prover counts the bytes.
+#[tactic(auto, unfolding(crate::specs::Made::blank))]
 pub(crate) fn blank() -> [u8; ROOM]
     ensures { result ≡ blank }
 {

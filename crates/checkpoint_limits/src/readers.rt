@@ -5,11 +5,12 @@ ghost use Rattle.checkpoint_limits.specs.Asked.{writes, end_written, refused_as}
 
 use crate::lines::{first, say, say_alike, say_count, say_last_line, say_line, say_number};
 use runner::lending::Replayed;
+use std::io;
 
 // Room for all that any of them writes.
 const TEXT: usize = runner::TEXT_ROOM;
 
-#[derive(Drop)]
+#[derive(Clone, Copy)]
 pub(crate) enum Reader {
     Replay,
     Check,
@@ -18,6 +19,7 @@ pub(crate) enum Reader {
     Mark,
 }
 
+#[tactic(auto, unfolding(crate::specs::Asked::writes))]
 pub(crate) fn ask(reader: Reader, trace: &[u8], out: &mut [u8]) -> Replayed
     ensures { replayed result out.new ≡ writes reader trace.now out.old }
 {
@@ -51,20 +53,20 @@ pub(crate) fn refused_as(replayed: Replayed) -> u8
     }
 }
 
-pub(crate) fn say_reader(reader: Reader) {
+pub(crate) fn say_reader(rt: &impl Print, reader: Reader) -> io::Result<()> {
     match reader {
-        Reader::Replay => say(b"replay"),
-        Reader::Check => say(b"check"),
-        Reader::From(k) => say_number(b"from ", k as usize),
-        Reader::Mark => say(b"mark"),
+        Reader::Replay => say(rt, b"replay"),
+        Reader::Check => say(rt, b"check"),
+        Reader::From(k) => say_number(rt, b"from ", k as usize),
+        Reader::Mark => say(rt, b"mark"),
     }
 }
 
-pub(crate) fn say_outcome(replayed: Replayed) {
+pub(crate) fn say_outcome(rt: &impl Print, replayed: Replayed) -> io::Result<()> {
     match replayed {
-        Replayed::Written(n) => say_count(n, b" bytes"),
-        Replayed::Refused(_, _) => say_number(b"refused ", refused_as(replayed) as usize),
-        Replayed::Short => say(b"short"),
+        Replayed::Written(n) => say_count(rt, n, b" bytes"),
+        Replayed::Refused(_, _) => say_number(rt, b"refused ", refused_as(replayed) as usize),
+        Replayed::Short => say(rt, b"short"),
     }
 }
 
@@ -74,35 +76,47 @@ fn room() -> [u8; TEXT] {
 }
 
 // Of a text its last line, of a marked trace its length.
-pub(crate) fn show(reader: Reader, trace: &[u8]) {
-    say(b"  ");
-    say_reader(reader);
-    say(b": ");
+pub(crate) fn show(rt: &impl Print, reader: Reader, trace: &[u8]) -> io::Result<()> {
+    say(rt, b"  ")?;
+    say_reader(rt, reader)?;
+    say(rt, b": ")?;
     let mut out = room();
     let replayed = ask(reader, trace, &mut out);
     if let Reader::Mark = reader {
-        say_outcome(replayed);
-        say(b"\n");
-        return;
+        say_outcome(rt, replayed)?;
+        return say(rt, b"\n");
     }
-    say_last_line(first(&out, written(replayed)));
+    say_last_line(rt, first(&out, written(replayed)))
 }
 
 // So many bytes by all of them, under one of several names.
-pub(crate) fn show_by_all(names: &[u8], index: usize, bytes: &[u8], length: usize) {
-    say_line(names, index);
+pub(crate) fn show_by_all(
+    rt: &impl Print,
+    names: &[u8],
+    index: usize,
+    bytes: &[u8],
+    length: usize,
+) -> io::Result<()> {
+    say_line(rt, names, index)?;
     let trace = first(bytes, length);
-    show(Reader::Replay, trace);
-    show(Reader::Check, trace);
-    show(Reader::From(0), trace);
-    show(Reader::Mark, trace);
+    show(rt, Reader::Replay, trace)?;
+    show(rt, Reader::Check, trace)?;
+    show(rt, Reader::From(0), trace)?;
+    show(rt, Reader::Mark, trace)
 }
 
 // What a reader writes of a trace beside what another writes of another, but for so many lines at the front of that.
-pub(crate) fn compare(a: Reader, trace: &[u8], b: Reader, other: &[u8], lines: usize) {
+pub(crate) fn compare(
+    rt: &impl Print,
+    a: Reader,
+    trace: &[u8],
+    b: Reader,
+    other: &[u8],
+    lines: usize,
+) -> io::Result<()> {
     let mut text = room();
     let n = written(ask(a, trace, &mut text));
     let mut whole = room();
     let m = written(ask(b, other, &mut whole));
-    say_alike(first(&text, n), first(&whole, m), lines);
+    say_alike(rt, first(&text, n), first(&whole, m), lines)
 }

@@ -2,6 +2,7 @@
 use crate::lines::{first, say, say_number};
 use crate::readers::{Reader, ask, say_outcome, say_reader, written};
 use line::LINE_ROOM;
+use std::io;
 
 // What stands in the lent bytes before. No text has it.
 const FILL: u8 = 170;
@@ -25,46 +26,52 @@ fn stays_from(lent: &[u8; MOST], n: usize) -> bool {
 }
 
 // The first bytes of what is lent go to the reader.
-fn lend(reader: Reader, trace: &[u8], room: usize) {
+fn lend(rt: &impl Print, reader: Reader, trace: &[u8], room: usize) -> io::Result<()> {
     if MOST < room {
-        return;
+        return Ok(());
     }
-    say_number(b"  room ", room);
-    say(b": ");
+    say_number(rt, b"  room ", room)?;
+    say(rt, b": ")?;
     let mut lent = filled();
     let replayed = ask(reader, trace, &mut lent[..room]);
-    say_outcome(replayed);
+    say_outcome(rt, replayed)?;
     if stays_from(&lent, written(replayed)) {
-        say(b", the rest stays\n");
+        say(rt, b", the rest stays\n")
     } else {
-        say(b", the rest CHANGED\n");
+        say(rt, b", the rest CHANGED\n")
     }
 }
 
 // A byte less than is asked for, and as many.
-fn pair(name: &[u8], reader: Reader, trace: &[u8], asked: usize) {
-    say(name);
-    say_reader(reader);
-    say(b"\n");
+fn pair(
+    rt: &impl Print,
+    name: &[u8],
+    reader: Reader,
+    trace: &[u8],
+    asked: usize,
+) -> io::Result<()> {
+    say(rt, name)?;
+    say_reader(rt, reader)?;
+    say(rt, b"\n")?;
     if 0 < asked {
-        lend(reader, trace, asked - 1);
+        lend(rt, reader, trace, asked - 1)?;
     }
-    lend(reader, trace, asked);
+    lend(rt, reader, trace, asked)
 }
 
-pub(crate) fn show_all(marked: &[u8]) {
+pub(crate) fn show_all(rt: &impl Print, marked: &[u8]) -> io::Result<()> {
     let name: &[u8] = b"";
-    pair(name, Reader::Replay, marked, MOST);
-    pair(name, Reader::Check, marked, LINE_ROOM);
-    pair(name, Reader::From(0), marked, LINE_ROOM * 345);
-    pair(name, Reader::From(1), marked, LINE_ROOM * 89);
-    pair(name, Reader::From(2), marked, LINE_ROOM);
-    pair(name, Reader::Mark, marked, 3842);
+    pair(rt, name, Reader::Replay, marked, MOST)?;
+    pair(rt, name, Reader::Check, marked, LINE_ROOM)?;
+    pair(rt, name, Reader::From(0), marked, LINE_ROOM * 345)?;
+    pair(rt, name, Reader::From(1), marked, LINE_ROOM * 89)?;
+    pair(rt, name, Reader::From(2), marked, LINE_ROOM)?;
+    pair(rt, name, Reader::Mark, marked, 3842)?;
     // A byte of the count, and no more.
     let refused = first(marked, 3617);
     let name: &[u8] = b"a refused trace: ";
-    pair(name, Reader::Replay, refused, LINE_ROOM);
-    pair(name, Reader::Check, refused, LINE_ROOM);
-    pair(name, Reader::From(0), refused, LINE_ROOM);
-    pair(name, Reader::Mark, refused, 0);
+    pair(rt, name, Reader::Replay, refused, LINE_ROOM)?;
+    pair(rt, name, Reader::Check, refused, LINE_ROOM)?;
+    pair(rt, name, Reader::From(0), refused, LINE_ROOM)?;
+    pair(rt, name, Reader::Mark, refused, 0)
 }

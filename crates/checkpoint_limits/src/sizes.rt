@@ -2,42 +2,44 @@
 use crate::lines::{first, say, say_count, say_number};
 use crate::making::{blank, put_marked, put_plain};
 use crate::readers::{Reader, compare, show};
+use std::io;
 
 // Whether the replay from each of some checkpoints says what the whole replay says of the operations behind it, and its end. Before that stand the line of the head and one
 // for each operation.
-pub(crate) fn show_tails(marked: &[u8], from: u32, to: u32) {
+pub(crate) fn show_tails(rt: &impl Print, marked: &[u8], from: u32, to: u32) -> io::Result<()> {
     let mut k = from;
     while k < to {
-        say_number(b"  the tail from ", k as usize);
+        say_number(rt, b"  the tail from ", k as usize)?;
         let lines = 1 + 256 * (k as usize + 1);
-        compare(Reader::From(k), marked, Reader::Replay, marked, lines);
+        compare(rt, Reader::From(k), marked, Reader::Replay, marked, lines)?;
         k += 1;
     }
+    Ok(())
 }
 
-fn show_size(source: &[u8], operations: u32) {
-    say_count(operations as usize, b" operations\n");
+fn show_size(rt: &impl Print, source: &[u8], operations: u32) -> io::Result<()> {
+    say_count(rt, operations as usize, b" operations\n")?;
     let mut bytes = blank();
     let n = put_plain(source, operations, &mut bytes);
     let plain = first(&bytes, n);
     let mut more = blank();
     let m = put_marked(source, operations, &mut more);
     let marked = first(&more, m);
-    show(Reader::Mark, plain);
-    show(Reader::Check, marked);
-    say(b"  marked again");
-    compare(Reader::Mark, marked, Reader::Mark, plain, 0);
-    say(b"  replayed with checkpoints");
-    compare(Reader::Replay, marked, Reader::Replay, plain, 0);
-    show_tails(marked, 0, operations / 256);
+    show(rt, Reader::Mark, plain)?;
+    show(rt, Reader::Check, marked)?;
+    say(rt, b"  marked again")?;
+    compare(rt, Reader::Mark, marked, Reader::Mark, plain, 0)?;
+    say(rt, b"  replayed with checkpoints")?;
+    compare(rt, Reader::Replay, marked, Reader::Replay, plain, 0)?;
+    show_tails(rt, marked, 0, operations / 256)
 }
 
-pub(crate) fn show_all(source: &[u8]) {
-    show_size(source, 0);
-    show_size(source, 1);
-    show_size(source, 255);
-    show_size(source, 256);
-    show_size(source, 257);
-    show_size(source, 512);
-    show_size(source, 4096);
+pub(crate) fn show_all(rt: &impl Print, source: &[u8]) -> io::Result<()> {
+    show_size(rt, source, 0)?;
+    show_size(rt, source, 1)?;
+    show_size(rt, source, 255)?;
+    show_size(rt, source, 256)?;
+    show_size(rt, source, 257)?;
+    show_size(rt, source, 512)?;
+    show_size(rt, source, 4096)
 }

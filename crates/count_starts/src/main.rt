@@ -1,10 +1,12 @@
 // Runs counts from each of the 65,536 starts, in both radixes, latched and not, and prints how many of them differ. One count goes against
 // document 01's own way, which takes 1, 0x7, 0x67 or 0x667 from the number; a few in one call against as many single ones; and many in one call
 // against what `left_after` makes of them. The crate `count` goes digit by digit and by its table, and no code is shared.
+#![tactic(auto)]
+
 ghost use Rattle.std.specs.Prelude.{◌<◌};
 
 use channel::Channel;
-use libc::STDOUT_FILENO;
+use std::io;
 
 // Stands in the output latch before the count, to be seen where the latch must not follow.
 const OLD_LATCH: u16 = 0x5AA5;
@@ -38,7 +40,7 @@ fn below(element: u16, bcd: bool) -> u16 {
 
 // What many counts leave, in a way of its own. A start with a digit above 9 goes down by document 01's rule, the ones in one leap, until its
 // digits are good or the counts are made; from good digits it is a decimal difference, and its digits one after the other.
-#[derive(Drop)]
+#[derive(Clone, Copy)]
 struct Left {
     element: u16,
     number: u32,
@@ -157,10 +159,8 @@ fn one_differs(start: u16, bcd: bool, latched: bool) -> bool {
 fn few_differ(start: u16, bcd: bool, latched: bool, number: u32) -> bool {
     let c = count::counts(starting(start, bcd, latched), number);
     let mut single = starting(start, bcd, latched);
-    let mut k: u32 = 0;
-    while k < number {
+    for _ in 0..number {
         single = count::count(single);
-        k += 1;
     }
     let right = single.counter;
     let l = single.latch;
@@ -181,7 +181,7 @@ fn many_differ(start: u16, bcd: bool, latched: bool, number: u32) -> bool {
 }
 
 // What is asked of a start: one count, a few, many.
-#[derive(Drop)]
+#[derive(Clone, Copy)]
 enum Asked {
     One,
     Few(u32),
@@ -197,74 +197,46 @@ fn asked_differs(asked: Asked, start: u32, bcd: bool, latched: bool) -> bool {
     }
 }
 
-fn differing(asked: Asked, bcd: bool, latched: bool) -> u32 {
-    let mut wrong: u32 = 0;
-    let mut start: u32 = 0;
-    while start < 65536 {
-        if asked_differs(asked, start, bcd, latched) {
-            wrong += 1;
-        }
-        start += 1;
+fn differing(asked: Asked, bcd: bool, latched: bool) -> usize {
+    (0..65536)
+        .filter(|start| asked_differs(asked, *start, bcd, latched))
+        .count()
+}
+
+fn report(rt: &impl Print, asked: Asked, bcd: bool, latched: bool) -> io::Result<()> {
+    let radix = if bcd { "decimal" } else { "binary" };
+    let held = if latched { ", latched" } else { "" };
+    let wrong = differing(asked, bcd, latched);
+    println!(rt; "{radix}{held}: 65536 starts, differing {wrong}")
+}
+
+fn report_all(rt: &impl Print, asked: Asked) -> io::Result<()> {
+    report(rt, asked, false, false)?;
+    report(rt, asked, false, true)?;
+    report(rt, asked, true, false)?;
+    report(rt, asked, true, true)
+}
+
+fn few(rt: &impl Print, number: u32) -> io::Result<()> {
+    println!(rt; "as single counts, {number}")?;
+    report_all(rt, Asked::Few(number))
+}
+
+fn many(rt: &impl Print, number: u32) -> io::Result<()> {
+    println!(rt; "in leaps, {number}")?;
+    report_all(rt, Asked::Many(number))
+}
+
+fn main(rt: HostRuntime) -> io::Result<()> {
+    println!(rt; "one count")?;
+    report_all(&rt, Asked::One)?;
+    for number in [0, 1, 2, 3, 4, 11] {
+        few(&rt, number)?;
     }
-    wrong
-}
-
-fn report(asked: Asked, bcd: bool, latched: bool) {
-    if bcd {
-        io::write_all(STDOUT_FILENO, b"decimal");
-    } else {
-        io::write_all(STDOUT_FILENO, b"binary");
+    for number in [
+        9, 10, 24, 25, 50, 999, 6665, 9999, 10000, 10001, 65535, 65536, 65537, 4294967295,
+    ] {
+        many(&rt, number)?;
     }
-    if latched {
-        io::write_all(STDOUT_FILENO, b", latched");
-    }
-    io::write_all(STDOUT_FILENO, b": 65536 starts, differing ");
-    io::print_decimal(STDOUT_FILENO, differing(asked, bcd, latched) as u64);
-    io::write_all(STDOUT_FILENO, b"\n");
-}
-
-fn report_all(asked: Asked) {
-    report(asked, false, false);
-    report(asked, false, true);
-    report(asked, true, false);
-    report(asked, true, true);
-}
-
-fn few(number: u32) {
-    io::write_all(STDOUT_FILENO, b"as single counts, ");
-    io::print_decimal(STDOUT_FILENO, number as u64);
-    io::write_all(STDOUT_FILENO, b"\n");
-    report_all(Asked::Few(number));
-}
-
-fn many(number: u32) {
-    io::write_all(STDOUT_FILENO, b"in leaps, ");
-    io::print_decimal(STDOUT_FILENO, number as u64);
-    io::write_all(STDOUT_FILENO, b"\n");
-    report_all(Asked::Many(number));
-}
-
-fn main() {
-    io::write_all(STDOUT_FILENO, b"one count\n");
-    report_all(Asked::One);
-    few(0);
-    few(1);
-    few(2);
-    few(3);
-    few(4);
-    few(11);
-    many(9);
-    many(10);
-    many(24);
-    many(25);
-    many(50);
-    many(999);
-    many(6665);
-    many(9999);
-    many(10000);
-    many(10001);
-    many(65535);
-    many(65536);
-    many(65537);
-    many(4294967295);
+    Ok(())
 }

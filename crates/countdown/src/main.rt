@@ -1,7 +1,9 @@
 // Counts down in BCD from chosen starts, for docs/DIGITS.md. A row has the number, each digit that the count changed, the ones first, and the
 // number that it left. Rows are read off the timer's own counts: nothing is recomputed here.
+#![tactic(auto)]
+
 use channel::Channel;
-use libc::STDOUT_FILENO;
+use std::io;
 
 fn counted(element: u16) -> u16 {
     let mut c = Channel::fresh();
@@ -12,56 +14,43 @@ fn counted(element: u16) -> u16 {
     k.counting_element
 }
 
-fn say(words: &[u8]) {
-    io::write_all(STDOUT_FILENO, words);
-}
-
 // One digit, if it changed.
-fn change(name: &[u8], before: u16, after: u16) {
+fn change(rt: &impl Print, name: &str, before: u16, after: u16) -> io::Result<()> {
     if before == after {
-        return;
+        return Ok(());
     }
-    say(b" ");
-    say(name);
-    say(b" ");
-    io::print_hex(STDOUT_FILENO, before as u64, 1);
-    say(b" to ");
-    io::print_hex(STDOUT_FILENO, after as u64, 1);
-    say(b",");
+    print!(rt; " {name} {before:x} to {after:x},")
 }
 
-fn row(before: u16, after: u16) {
-    io::print_hex(STDOUT_FILENO, before as u64, 4);
-    say(b":");
-    change(b"ones", before % 16, after % 16);
-    change(b"tens", before / 16 % 16, after / 16 % 16);
-    change(b"hundreds", before / 256 % 16, after / 256 % 16);
-    change(b"thousands", before / 4096, after / 4096);
-    say(b" leaves ");
-    io::print_hex(STDOUT_FILENO, after as u64, 4);
-    say(b"\n");
+fn row(rt: &impl Print, before: u16, after: u16) -> io::Result<()> {
+    print!(rt; "{before:04x}:")?;
+    change(rt, "ones", before % 16, after % 16)?;
+    change(rt, "tens", before / 16 % 16, after / 16 % 16)?;
+    change(rt, "hundreds", before / 256 % 16, after / 256 % 16)?;
+    change(rt, "thousands", before / 4096, after / 4096)?;
+    println!(rt; " leaves {after:04x}")
 }
 
 // Three counts, one row each.
-fn countdown(start: u16) {
+fn countdown(rt: &impl Print, start: u16) -> io::Result<()> {
     let first = counted(start);
-    row(start, first);
+    row(rt, start, first)?;
     let second = counted(first);
-    row(first, second);
-    row(second, counted(second));
+    row(rt, first, second)?;
+    row(rt, second, counted(second))
 }
 
-fn main() {
-    say(b"over 1000\n");
-    countdown(0x1001);
-    say(b"over 0010\n");
-    countdown(0x0011);
-    say(b"over 0000\n");
-    countdown(0x0001);
-    say(b"over 00a0\n");
-    countdown(0x00A1);
-    say(b"other digits above 9\n");
-    row(0x00FF, counted(0x00FF));
-    row(0x0F00, counted(0x0F00));
-    row(0xA000, counted(0xA000));
+fn main(rt: HostRuntime) -> io::Result<()> {
+    println!(rt; "over 1000")?;
+    countdown(&rt, 0x1001)?;
+    println!(rt; "over 0010")?;
+    countdown(&rt, 0x0011)?;
+    println!(rt; "over 0000")?;
+    countdown(&rt, 0x0001)?;
+    println!(rt; "over 00a0")?;
+    countdown(&rt, 0x00A1)?;
+    println!(rt; "other digits above 9")?;
+    row(&rt, 0x00FF, counted(0x00FF))?;
+    row(&rt, 0x0F00, counted(0x0F00))?;
+    row(&rt, 0xA000, counted(0xA000))
 }

@@ -1,11 +1,15 @@
 // Reads one trace from standard input and prints it in words: its head line; for each operation its index, its place, what it is and, behind ->, what the replay says
 // of it, a refusal in words too; and its end line. Of a refused trace it prints the operations before the fault and the fault's line, and says the fault in words on
 // standard error. What is said is proved in the crates words, line and runner; here bytes are only read, lent, put one behind the other and written.
+#![tactic(auto)]
+
 use board::Board;
-use libc::{STDERR_FILENO, STDIN_FILENO, STDOUT_FILENO};
+use console::{Failure, Verdict};
 use line::sentence::Sentence;
 use line::{LINE_ROOM, Line};
 use runner::Form;
+use std::io::Write;
+use std::process::ExitCode;
 use trace::Fault;
 use trace::head::{Head, Judged};
 use trace::operation::{Operation, OperationJudged, place_of};
@@ -16,24 +20,9 @@ const ROOM: usize = 4 * LINE_ROOM;
 // An answer in bytes begins with the refusal's number, 0 where there is none.
 const ANSWER_SIZE: usize = 16;
 
-// The board after an operation, and whether its line was written.
-#[derive(Drop)]
-struct Explained {
-    board: Board,
-    written: bool,
-}
-
-fn write(fd: i32, text: &[u8], length: usize) -> bool {
-    if length <= text.len() {
-        return io::write_all(fd, &text[0..length]);
-    }
-    false
-}
-
-fn print(sentence: Sentence) -> bool {
+fn print<W: Write>(output: &mut W, sentence: Sentence) -> Result<(), Failure> {
     let line = line::line_of(sentence);
-    let bytes = line.bytes;
-    write(STDOUT_FILENO, &bytes, line.len)
+    console::print_first(output, &line.bytes, line.len)
 }
 
 // The first so many bytes of a text.
@@ -72,18 +61,18 @@ fn put_refusal(out: &mut [u8], place: usize, number: u8) -> usize {
     text::put(out, at, b")")
 }
 
-// The operation of an index, from a board on; next is the index behind it.
-fn explain_one(
+// The operation of an index, from a board on; next is the index behind it. What is answered is the board after it.
+fn explain_one<W: Write>(
+    output: &mut W,
     trace: &[u8],
     start: Board,
     index: u32,
     next: u32,
     operation: Operation,
-) -> Explained {
+) -> Result<Board, Failure> {
     let model = start.model;
-    let mut line = [0u8; LINE_ROOM];
-    let said: &mut [u8] = &mut line;
-    let told = runner::tell(Form::Lines, trace, start, index, next, said, 0);
+    let mut said = [0u8; LINE_ROOM];
+    let told = runner::tell(Form::Lines, trace, start, index, next, &mut said, 0);
     let mut answer = [0u8; ANSWER_SIZE];
     runner::tell(Form::Answers, trace, start, index, next, &mut answer, 0);
     let mut out = [0u8; ROOM];
@@ -93,81 +82,67 @@ fn explain_one(
     place = text::put(&mut out, place, b" ");
     place = put_line(&mut out, place, words::operation_words(model, operation));
     place = text::put(&mut out, place, b" -> ");
-    place = put_said(&mut out, place, said, digits, told.place);
+    place = put_said(&mut out, place, &said, digits, told.place);
     place = put_refusal(&mut out, place, answer[0]);
     place = text::put(&mut out, place, b"\n");
-    let written = write(STDOUT_FILENO, &out, place);
-    let board = told.board;
-    Explained { board, written }
+    console::print_first(output, &out, place)?;
+    Ok(told.board)
 }
 
-// The operations up to the first that is refused. Whether their lines were written.
-fn explain_operations(trace: &[u8], head: Head) -> bool {
-    let model = head.model;
-    let number = head.operations;
-    let made = Board::new(model, head.divisor);
+// The operations up to the first that is refused.
+fn explain_operations<W: Write>(output: &mut W, trace: &[u8], head: Head) -> Result<(), Failure> {
+    let made = Board::new(head.model, head.divisor);
     let mut board = made.board;
-    let mut k: u32 = 0;
-    while k < number {
-        let index = k;
-        k += 1;
-        let found = trace::operation_at(trace, index);
-        match found {
-            OperationJudged::Refused(_) => {
-                return true;
-            }
+    for index in 0..head.operations {
+        match trace::operation_at(trace, index) {
+            OperationJudged::Refused(_) => return Ok(()),
             OperationJudged::Sound(operation) => {
-                let explained = explain_one(trace, board, index, k, operation);
-                if !explained.written {
-                    return false;
-                }
-                board = explained.board;
+                board = explain_one(output, trace, board, index, index + 1, operation)?;
             }
         }
     }
-    true
+    Ok(())
 }
 
 // The head and the operations, where the head is sound.
-fn explain_front(trace: &[u8]) -> bool {
-    let read = trace::read_head(trace);
-    match read {
-        Judged::Refused(_) => true,
+fn explain_front<W: Write>(output: &mut W, trace: &[u8]) -> Result<(), Failure> {
+    match trace::read_head(trace) {
+        Judged::Refused(_) => Ok(()),
         Judged::Sound(head) => {
-            let model = head.model;
-            if !print(Sentence::Head(model, head.divisor)) {
-                return false;
-            }
-            explain_operations(trace, head)
+            print(output, Sentence::Head(head.model, head.divisor))?;
+            explain_operations(output, trace, head)
         }
     }
 }
 
-fn say_fault(trace: &[u8], fault: Fault) -> bool {
-    if !print(Sentence::Fault(fault)) {
-        return false;
-    }
+fn say_fault<E: Write>(error: &mut E, trace: &[u8], fault: Fault) {
     let sentence = words::fault_sentence(trace, fault);
-    let bytes = sentence.bytes;
-    write(STDERR_FILENO, &bytes, sentence.len)
+    console::say(error, &sentence.bytes, sentence.len);
 }
 
-fn explain(trace: &[u8]) -> bool {
-    if !explain_front(trace) {
-        return false;
-    }
-    let judged = trace::judge(trace);
-    match judged {
-        Judged::Sound(head) => print(Sentence::End(head.operations)),
-        Judged::Refused(fault) => say_fault(trace, fault),
+fn explain<W: Write, E: Write>(
+    output: &mut W,
+    error: &mut E,
+    trace: &[u8],
+) -> Result<Verdict, Failure> {
+    explain_front(output, trace)?;
+    match trace::judge(trace) {
+        Judged::Sound(head) => {
+            print(output, Sentence::End(head.operations))?;
+            Ok(Verdict::Sound)
+        }
+        Judged::Refused(fault) => {
+            print(output, Sentence::Fault(fault))?;
+            say_fault(error, trace, fault);
+            Ok(Verdict::Refused)
+        }
     }
 }
 
-fn main() {
-    // More than the longest trace has, as in the program replay.
-    let mut input = io::large_buffer();
-    let length = io::read_full(STDIN_FILENO, &mut input);
-    if !explain(&input[..length]) {
-        os::fail(b"cannot write");
-    }
+fn main(rt: HostRuntime) -> ExitCode {
+    let verdict = match console::read_trace(rt.alloc(), rt.reader()) {
+        Ok(trace) => explain(&mut rt.stdout(), &mut rt.stderr(), trace.as_slice()),
+        Err(failure) => Err(failure),
+    };
+    console::end(&rt, verdict)
 }

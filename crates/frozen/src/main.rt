@@ -1,10 +1,20 @@
-// Replays the frozen samples of the original's answers through the exported functions, and prints how many cases of each differ. The arguments
+// Replays the frozen samples of the original's answers through the functions that a host calls, and prints how many cases of each differ. The arguments
 // name the files: of channels, of boards and of traces, in this order. README.md says what they hold and how they were made.
-use libc::STDOUT_FILENO;
-use pit::{BOARD_ANSWER_SIZE, BOARD_SIZE, CHANNEL_ANSWER_SIZE, CHANNEL_SIZE, TEXT_ROOM};
+#![tactic(auto)]
 
-// More than any sample has: the loop ends even if the input does not.
-const MOST: u64 = 1000000;
+ghost use Rattle.std.specs.Prelude.{◌<◌, length, IfSome};
+
+use pit::{BOARD_ANSWER_SIZE, BOARD_SIZE, CHANNEL_ANSWER_SIZE, CHANNEL_SIZE, TEXT_ROOM};
+use std::io::{self, Read};
+use std::rt::{Env, Files};
+use std::{env, fs};
+
+// The record before the operation; its code, number and setting; the record after it; the answer.
+const CHANNEL_CASE: usize = CHANNEL_SIZE + 3 + CHANNEL_SIZE + CHANNEL_ANSWER_SIZE;
+
+// The board before the operation; how many event bytes are lent, and the eight of which they are the first; the operation; the board, the event bytes and
+// the answer after it.
+const BOARD_CASE: usize = BOARD_SIZE + 1 + 8 + 16 + BOARD_SIZE + 8 + BOARD_ANSWER_SIZE;
 
 // Stands in an answer before the operation, to be seen where nothing is written.
 const OLD_ANSWER: u8 = 0xA5;
@@ -12,38 +22,13 @@ const OLD_ANSWER: u8 = 0xA5;
 // No status of a call: more event bytes are to be lent than there are.
 const NOT_LENT: u32 = 255;
 
-// More bytes than any trace of the sample has.
-const TRACE: usize = 65536;
-
-// What came of a case. One that the end of the file cuts off differs.
-#[derive(Drop)]
-enum Case {
-    Agrees,
-    Differs,
-    End,
-}
-
-fn case_of(agrees: bool) -> Case {
-    if agrees {
-        return Case::Agrees;
-    }
-    Case::Differs
-}
-
-// The record before the operation; its code, number and setting; the record after it; the answer.
-fn channel_case(file: i32) -> Case {
-    let mut record = [0u8; CHANNEL_SIZE];
-    let mut operation = [0u8; 3];
-    let mut after = [0u8; CHANNEL_SIZE];
-    let mut told = [0u8; CHANNEL_ANSWER_SIZE];
-    if io::read_full(file, &mut record) == 0 {
-        return Case::End;
-    }
-    io::read_full(file, &mut operation);
-    io::read_full(file, &mut after);
-    if io::read_full(file, &mut told) < CHANNEL_ANSWER_SIZE {
-        return Case::Differs;
-    }
+// Whether the operation leaves the record and answers as told.
+fn leaves_record(
+    mut record: [u8; CHANNEL_SIZE],
+    operation: &[u8; 3],
+    after: &[u8; CHANNEL_SIZE],
+    told: &[u8],
+) -> bool {
     let mut answer = [OLD_ANSWER; CHANNEL_ANSWER_SIZE];
     let status = pit::pit_channel_operation(
         &mut record,
@@ -52,17 +37,15 @@ fn channel_case(file: i32) -> Case {
         operation[1],
         operation[2],
     );
-    if status != 0 {
-        return Case::Differs;
-    }
-    if !check::same(&record, &after) {
-        return Case::Differs;
-    }
-    case_of(check::same(&answer, &told))
+    status == 0 && record == *after && answer.as_slice() == told
 }
 
-fn wide(byte: u8) -> u32 {
-    byte as u32
+// Whether the case agrees; nothing where it is cut off.
+fn channel_case(case: &[u8]) -> Option<bool> {
+    let (before, rest) = case.split_first_chunk::<CHANNEL_SIZE>()?;
+    let (operation, rest) = rest.split_first_chunk::<3>()?;
+    let (after, told) = rest.split_first_chunk::<CHANNEL_SIZE>()?;
+    Some(leaves_record(*before, operation, after, told))
 }
 
 // An operation on a board is its place in the event bytes (8 bytes), code (1), target (2) and number (4), and the status that it has (1).
@@ -75,13 +58,13 @@ fn place_in(operation: &[u8; 16]) -> usize {
 // The status of the operation, with the first event bytes lent and the rest kept back.
 fn operate(
     board: &mut [u8],
-    lent: u32,
+    lent: u8,
     events: &mut [u8],
     operation: &[u8; 16],
     answer: &mut [u8],
 ) -> u32 {
-    let room = io::count(lent as isize, events);
-    if room < lent as usize {
+    let room = lent as usize;
+    if events.len() < room {
         return NOT_LENT;
     }
     let place = place_in(operation);
@@ -98,174 +81,161 @@ fn operate(
     )
 }
 
-// The board before the operation; how many event bytes are lent, and the eight of which they are the first; the operation; the board, the event bytes and
-// the answer after it.
-fn board_case(file: i32) -> Case {
-    let mut board = [0u8; BOARD_SIZE];
-    let mut lent = [0u8; 1];
-    let mut events = [0u8; 8];
-    let mut operation = [0u8; 16];
-    let mut after = [0u8; BOARD_SIZE];
-    let mut events_after = [0u8; 8];
-    let mut told = [0u8; BOARD_ANSWER_SIZE];
-    if io::read_full(file, &mut board) == 0 {
-        return Case::End;
-    }
-    io::read_full(file, &mut lent);
-    io::read_full(file, &mut events);
-    io::read_full(file, &mut operation);
-    io::read_full(file, &mut after);
-    io::read_full(file, &mut events_after);
-    if io::read_full(file, &mut told) < BOARD_ANSWER_SIZE {
-        return Case::Differs;
-    }
-    let mut answer = [OLD_ANSWER; BOARD_ANSWER_SIZE];
-    let lent = wide(lent[0]);
-    let status = operate(&mut board, lent, &mut events, &operation, &mut answer);
-    if status != wide(operation[15]) {
-        return Case::Differs;
-    }
-    if !check::same(&board, &after) {
-        return Case::Differs;
-    }
-    if !check::same(&events, &events_after) {
-        return Case::Differs;
-    }
-    case_of(check::same(&answer, &told))
+// The board, the event bytes, lent or kept back, and the answer.
+#[derive(Clone, Copy)]
+struct Lent {
+    board: [u8; BOARD_SIZE],
+    events: [u8; 8],
+    answer: [u8; BOARD_ANSWER_SIZE],
 }
 
-// A trace or a text in the file: its length and its bytes.
-#[derive(Drop)]
-enum Part {
-    Whole(u32),
-    // It is cut off, or longer than the bytes that are lent.
-    Broken,
-    End,
+// The status of the operation, and what it leaves of the bytes.
+fn left_by(operation: &[u8; 16], room: u8, before: Lent) -> (u32, Lent) {
+    let Lent {
+        mut board,
+        mut events,
+        mut answer,
+    } = before;
+    let status = operate(&mut board, room, &mut events, operation, &mut answer);
+    (
+        status,
+        Lent {
+            board,
+            events,
+            answer,
+        },
+    )
 }
 
-// The bytes of a part, read to the front of those that are lent, and their number.
-fn read_part(file: i32, part: &mut [u8]) -> Part {
-    let mut head = [0u8; 4];
-    let got = io::read_full(file, &mut head);
-    if got == 0 {
-        return Part::End;
-    }
-    if got < 4 {
-        return Part::Broken;
-    }
-    let length = numbers::number_at(&head, 0);
-    let room = io::count(length as isize, part);
-    if room < length as usize {
-        return Part::Broken;
-    }
-    if io::read_full(file, &mut part[..room]) < room {
-        return Part::Broken;
-    }
-    Part::Whole(length)
+// Whether the case agrees; nothing where it is cut off.
+fn board_case(case: &[u8]) -> Option<bool> {
+    let (board, rest) = case.split_first_chunk::<BOARD_SIZE>()?;
+    let (room, rest) = rest.split_first()?;
+    let (events, rest) = rest.split_first_chunk::<8>()?;
+    let (operation, rest) = rest.split_first_chunk::<16>()?;
+    let (board_after, rest) = rest.split_first_chunk::<BOARD_SIZE>()?;
+    let (events_after, told) = rest.split_first_chunk::<8>()?;
+    let before = Lent {
+        board: *board,
+        events: *events,
+        answer: [OLD_ANSWER; BOARD_ANSWER_SIZE],
+    };
+    let (status, after) = left_by(operation, *room, before);
+    let as_told = status == operation[15] as u32 && after.answer.as_slice() == told;
+    Some(as_told && after.board == *board_after && after.events == *events_after)
+}
+
+// A trace or a text in the file, behind its length, and what follows it.
+fn part_of(bytes: &[u8]) -> Option<(&[u8], &[u8])>
+    ensures { IfSome result (λ parts. length parts.1.now < length bytes.now) }
+{
+    let (head, rest) = bytes.split_first_chunk::<4>()?;
+    rest.split_at_checked(numbers::number_at(head, 0) as usize)
 }
 
 // Whether a replay of the trace answers 0 and the text's length, and writes the text.
-fn replays(trace: &[u8], text: &[u8]) -> bool {
-    let mut out = [0u8; TEXT_ROOM];
+fn replays(trace: &[u8], text: &[u8], out: &mut [u8]) -> bool {
     let mut answer = [0u8; BOARD_ANSWER_SIZE];
-    if pit::pit_replay(trace, &mut out, &mut answer) != 0 {
+    if pit::pit_replay(trace, out, &mut answer) != 0 {
         return false;
     }
-    let length = numbers::number_at(&answer, 0);
-    if length as usize != text.len() {
+    let length = numbers::number_at(&answer, 0) as usize;
+    if length != text.len() || numbers::number_at(&answer, 4) != 0 {
         return false;
     }
-    if numbers::number_at(&answer, 4) != 0 {
-        return false;
-    }
-    let printed = io::count(length as isize, &out);
-    check::same(&out[..printed], text)
+    out.get(..length) == Some(text)
 }
 
-fn text_case(file: i32, trace: &[u8]) -> Case {
-    let mut text = [0u8; TEXT_ROOM];
-    let part = read_part(file, &mut text);
-    let Part::Whole(length) = part else {
-        return Case::Differs;
-    };
-    let whole = io::count(length as isize, &text);
-    case_of(replays(trace, &text[..whole]))
+// Whether the trace's replay prints the text, and the cases that follow; nothing where the case is cut off.
+fn trace_case<'a>(bytes: &'a [u8], out: &mut [u8]) -> Option<(bool, &'a [u8])>
+    ensures { IfSome result (λ judged. length judged.1.now < length bytes.now) }
+{
+    let (trace, behind) = part_of(bytes)?;
+    let (text, rest) = part_of(behind)?;
+    Some((replays(trace, text, out), rest))
 }
 
-// The trace, and the text that its replay prints.
-fn trace_case(file: i32) -> Case {
-    let mut trace = [0u8; TRACE];
-    let part = read_part(file, &mut trace);
-    match part {
-        Part::Whole(length) => {
-            let whole = io::count(length as isize, &trace);
-            text_case(file, &trace[..whole])
-        }
-        Part::Broken => Case::Differs,
-        Part::End => Case::End,
-    }
-}
-
-#[derive(Drop)]
+#[derive(Clone, Copy)]
 enum Kind {
     Channels,
     Boards,
     Traces,
 }
 
-fn next_case(file: i32, kind: Kind) -> Case {
-    match kind {
-        Kind::Channels => channel_case(file),
-        Kind::Boards => board_case(file),
-        Kind::Traces => trace_case(file),
+#[derive(Clone, Copy)]
+struct Tally {
+    cases: usize,
+    differing: usize,
+}
+
+// One that the end of the file cuts off differs.
+fn channels(bytes: &[u8]) -> Tally {
+    let cases = bytes.chunks(CHANNEL_CASE);
+    let differing = bytes
+        .chunks(CHANNEL_CASE)
+        .filter(|case| channel_case(case) != Some(true));
+    Tally {
+        cases: cases.count(),
+        differing: differing.count(),
     }
 }
 
-#[derive(Drop)]
-struct Tally {
-    cases: u64,
-    differing: u64,
+// The same of boards.
+fn boards(bytes: &[u8]) -> Tally {
+    let cases = bytes.chunks(BOARD_CASE);
+    let differing = bytes
+        .chunks(BOARD_CASE)
+        .filter(|case| board_case(case) != Some(true));
+    Tally {
+        cases: cases.count(),
+        differing: differing.count(),
+    }
 }
 
-fn replay(file: i32, kind: Kind) -> Tally {
-    let mut cases: u64 = 0;
-    let mut differing: u64 = 0;
-    while cases < MOST {
-        let case = next_case(file, kind);
+// The same of traces.
+fn traces(bytes: &[u8], out: &mut [u8]) -> Tally {
+    let mut cases = 0;
+    let mut differing = 0;
+    let mut rest = bytes;
+    while !rest.is_empty() {
         cases += 1;
-        match case {
-            Case::Agrees => {}
-            Case::Differs => {
-                differing += 1;
-            }
-            Case::End => {
-                return Tally {
-                    cases: cases - 1,
-                    differing,
-                };
-            }
+        let (agrees, behind) = trace_case(rest, out).unwrap_or((false, &[]));
+        if !agrees {
+            differing += 1;
         }
+        rest = behind;
     }
     Tally { cases, differing }
 }
 
-// A file that cannot be opened has no cases.
-fn replay_argument(argument: usize, kind: Kind) {
-    let mut name = io::buffer();
-    let length = os::arg(argument, &mut name);
-    let file = os::open_read(&name[..length]);
-    let tally = replay(file, kind);
-    libc::close(file);
-    io::write_all(STDOUT_FILENO, &name[..length]);
-    io::write_all(STDOUT_FILENO, b": ");
-    io::print_decimal(STDOUT_FILENO, tally.cases);
-    io::write_all(STDOUT_FILENO, b" cases, ");
-    io::print_decimal(STDOUT_FILENO, tally.differing);
-    io::write_all(STDOUT_FILENO, b" differ\n");
+// A file that cannot be opened has no cases, and an argument that is not there names none.
+fn read_sample<R: Files + AllocGlobal>(rt: &R, name: &str) -> io::Result<Vec<u8>> {
+    let mut bytes = Vec::new(rt.alloc());
+    if let Ok(mut file) = fs::open(rt, name) {
+        file.read_to_end(&mut bytes)?;
+    }
+    Ok(bytes)
 }
 
-fn main() {
-    replay_argument(1, Kind::Channels);
-    replay_argument(2, Kind::Boards);
-    replay_argument(3, Kind::Traces);
+fn replay<R: Files + AllocGlobal + Print>(rt: &R, name: &str, kind: Kind) -> io::Result<()> {
+    let sample = read_sample(rt, name)?;
+    let bytes = sample.as_slice();
+    let tally = match kind {
+        Kind::Channels => channels(bytes),
+        Kind::Boards => boards(bytes),
+        Kind::Traces => {
+            let mut out = vec![in rt.alloc(); 0u8; TEXT_ROOM]?;
+            traces(bytes, out.as_mut_slice())
+        }
+    };
+    println!(rt; "{name}: {} cases, {} differ", tally.cases, tally.differing)
+}
+
+fn main(rt: HostRuntime) -> io::Result<()> {
+    let mut names = env::args(&rt)?.skip(1);
+    for kind in [Kind::Channels, Kind::Boards, Kind::Traces] {
+        let name = names.next().unwrap_or(String::new(rt.alloc()));
+        replay(&rt, name.as_str(), kind)?;
+    }
+    Ok(())
 }

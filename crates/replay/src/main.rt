@@ -1,33 +1,43 @@
 // Reads one trace from standard input and prints its replay: document 01, "Recorded traces". Of a refused trace the fault goes to standard error too, in words. What
 // is printed is proved in the crate runner, and the words in the crate words; here bytes are only read, lent and written.
-use libc::{STDERR_FILENO, STDIN_FILENO, STDOUT_FILENO};
+#![tactic(auto)]
+
+use console::{Failure, Verdict};
+use std::io::Write;
+use std::process::ExitCode;
 use trace::head::Judged;
 
-fn say(text: &[u8], length: usize) {
-    if length <= text.len() {
-        io::write_all(STDERR_FILENO, &text[0..length]);
-    }
-}
-
 // One sentence of a refused trace, and nothing of a sound one.
-fn say_fault(trace: &[u8]) {
-    let judged = trace::judge(trace);
-    if let Judged::Refused(fault) = judged {
-        let sentence = words::fault_sentence(trace, fault);
-        let bytes = sentence.bytes;
-        say(&bytes, sentence.len);
+fn say_fault<E: Write>(error: &mut E, trace: &[u8]) -> Verdict {
+    match trace::judge(trace) {
+        Judged::Sound(_) => Verdict::Sound,
+        Judged::Refused(fault) => {
+            let sentence = words::fault_sentence(trace, fault);
+            console::say(error, &sentence.bytes, sentence.len);
+            Verdict::Refused
+        }
     }
 }
 
-fn main() {
-    // More than the longest trace has: no byte past that counts, and an input without end is answered too.
-    let mut input = io::large_buffer();
-    let length = io::read_full(STDIN_FILENO, &mut input);
-    let mut output = [0u8; runner::TEXT_ROOM];
-    let printed = runner::replay(&input[..length], &mut output);
-    if io::write_all(STDOUT_FILENO, &output[..printed]) {
-        say_fault(&input[..length]);
-    } else {
-        os::fail(b"cannot write");
-    }
+fn print_replay<W: Write>(output: &mut W, trace: &[u8]) -> Result<(), Failure> {
+    let mut text = [0u8; runner::TEXT_ROOM];
+    let length = runner::replay(trace, &mut text);
+    console::print(output, &text[..length])
+}
+
+fn answer<W: Write, E: Write>(
+    output: &mut W,
+    error: &mut E,
+    trace: &[u8],
+) -> Result<Verdict, Failure> {
+    print_replay(output, trace)?;
+    Ok(say_fault(error, trace))
+}
+
+fn main(rt: HostRuntime) -> ExitCode {
+    let verdict = match console::read_trace(rt.alloc(), rt.reader()) {
+        Ok(trace) => answer(&mut rt.stdout(), &mut rt.stderr(), trace.as_slice()),
+        Err(failure) => Err(failure),
+    };
+    console::end(&rt, verdict)
 }

@@ -1,53 +1,63 @@
 // Reads one trace from standard input and prints its replay from a checkpoint, whose number is the first argument. Of a refused trace the fault goes to standard error
 // too, in words. What is printed is proved in the crate checkpoint, and the words in the crate words; here bytes are only read, lent and written.
+#![tactic(auto)]
+
 mod decimal;
 
 use checkpoint::starting::Start;
-use libc::{STDERR_FILENO, STDIN_FILENO, STDOUT_FILENO};
+use console::{Failure, Verdict};
 use runner::lending::Replayed;
+use std::env::Env;
+use std::io::Write;
+use std::process::ExitCode;
 
-fn checkpoint_asked() -> u32 {
-    let mut word = io::buffer();
-    let length = os::arg(1, &mut word);
-    decimal::number(&word[..length])
-}
+// More than any argument that spells a number has.
+const WORD_ROOM: usize = 4096;
 
-fn say(text: &[u8], length: usize) {
-    if length <= text.len() {
-        io::write_all(STDERR_FILENO, &text[0..length]);
+fn checkpoint_asked(rt: &impl Env) -> u32 {
+    let mut word = [0u8; WORD_ROOM];
+    match rt.arg(1, &mut word) {
+        Ok(length) => decimal::number(&word[..length]),
+        Err(_) => decimal::number(b""),
     }
 }
 
 // One sentence where no replay begins, and nothing where one does.
-fn say_fault(trace: &[u8], k: u32) {
-    let start = checkpoint::starting::start_of(trace, k);
-    if let Start::Refused(fault) = start {
-        let sentence = words::fault_sentence(trace, fault);
-        let bytes = sentence.bytes;
-        say(&bytes, sentence.len);
-    }
-}
-
-// Whether all of it could be written.
-fn print_from(trace: &[u8], k: u32) -> bool {
-    let mut output = [0u8; runner::TEXT_ROOM];
-    let replayed = checkpoint::replay_from_into(trace, k, &mut output);
-    if let Replayed::Written(n) = replayed {
-        if n <= output.len() {
-            return io::write_all(STDOUT_FILENO, &output[0..n]);
+fn say_fault<E: Write>(error: &mut E, trace: &[u8], k: u32) -> Verdict {
+    match checkpoint::starting::start_of(trace, k) {
+        Start::Refused(fault) => {
+            let sentence = words::fault_sentence(trace, fault);
+            console::say(error, &sentence.bytes, sentence.len);
+            Verdict::Refused
         }
+        Start::There => Verdict::Sound,
     }
-    true
 }
 
-fn main() {
-    let k = checkpoint_asked();
-    // More than the longest trace has, as in the program replay.
-    let mut input = io::large_buffer();
-    let length = io::read_full(STDIN_FILENO, &mut input);
-    if print_from(&input[..length], k) {
-        say_fault(&input[..length], k);
-    } else {
-        os::fail(b"cannot write");
+fn print_from<W: Write>(output: &mut W, trace: &[u8], k: u32) -> Result<(), Failure> {
+    let mut text = [0u8; runner::TEXT_ROOM];
+    match checkpoint::replay_from_into(trace, k, &mut text) {
+        Replayed::Written(n) => console::print_first(output, &text, n),
+        Replayed::Refused(_, _) => Ok(()),
+        Replayed::Short => Ok(()),
     }
+}
+
+fn answer<W: Write, E: Write>(
+    output: &mut W,
+    error: &mut E,
+    trace: &[u8],
+    k: u32,
+) -> Result<Verdict, Failure> {
+    print_from(output, trace, k)?;
+    Ok(say_fault(error, trace, k))
+}
+
+fn main(rt: HostRuntime) -> ExitCode {
+    let k = checkpoint_asked(&rt);
+    let verdict = match console::read_trace(rt.alloc(), rt.reader()) {
+        Ok(trace) => answer(&mut rt.stdout(), &mut rt.stderr(), trace.as_slice(), k),
+        Err(failure) => Err(failure),
+    };
+    console::end(&rt, verdict)
 }
