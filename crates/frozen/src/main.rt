@@ -2,33 +2,72 @@
 // name the files: of channels, of boards and of traces, in this order. README.md says what they hold and how they were made.
 #![tactic(auto)]
 
-ghost use Rattle.std.specs.Prelude.{◌<◌, length, IfSome};
+ghost use Rattle.std.specs.Prelude.{◌≤◌, IfOk, length};
 
 use pit::{BOARD_ANSWER_SIZE, BOARD_SIZE, CHANNEL_ANSWER_SIZE, CHANNEL_SIZE, TEXT_ROOM};
+use std::fs::File;
 use std::io::{self, Read};
 use std::rt::{Env, Files};
-use std::{env, fs};
 
-// The record before the operation; its code, number and setting; the record after it; the answer.
-const CHANNEL_CASE: usize = CHANNEL_SIZE + 3 + CHANNEL_SIZE + CHANNEL_ANSWER_SIZE;
-
-// The board before the operation; how many event bytes are lent, and the eight of which they are the first; the operation; the board, the event bytes and
-// the answer after it.
-const BOARD_CASE: usize = BOARD_SIZE + 1 + 8 + 16 + BOARD_SIZE + 8 + BOARD_ANSWER_SIZE;
+// More than any sample has: the loop ends even if the input does not.
+const MOST: u64 = 1000000;
 
 // Stands in an answer before the operation, to be seen where nothing is written.
 const OLD_ANSWER: u8 = 0xA5;
 
+// No name of a file is longer.
+const NAME_ROOM: usize = 4096;
+
 // No status of a call: more event bytes are to be lent than there are.
 const NOT_LENT: u32 = 255;
 
-// Whether the operation leaves the record and answers as told.
-fn leaves_record(
-    mut record: [u8; CHANNEL_SIZE],
-    operation: &[u8; 3],
-    after: &[u8; CHANNEL_SIZE],
-    told: &[u8],
-) -> bool {
+// More bytes than any trace of the sample has.
+const TRACE: usize = 65536;
+
+// What came of a case. One that the end of the file cuts off differs.
+#[derive(Clone, Copy)]
+enum Case {
+    Agrees,
+    Differs,
+    End,
+}
+
+fn case_of(agrees: bool) -> Case {
+    if agrees {
+        return Case::Agrees;
+    }
+    Case::Differs
+}
+
+// The next bytes of the file, as many as are lent, or as there are; and how many.
+fn read_full<R: Read>(file: &mut R, bytes: &mut [u8]) -> io::Result<usize>
+    ensures { IfOk result (λ got. got ≤ length bytes.new) }
+{
+    let mut got = 0;
+    while got < bytes.len() {
+        let more = file.read(&mut bytes[got..])?;
+        if more == 0 {
+            break;
+        }
+        got += more;
+    }
+    Ok(got)
+}
+
+// The record before the operation; its code, number and setting; the record after it; the answer.
+fn channel_case<R: Read>(file: &mut R) -> io::Result<Case> {
+    let mut record = [0u8; CHANNEL_SIZE];
+    let mut operation = [0u8; 3];
+    let mut after = [0u8; CHANNEL_SIZE];
+    let mut told = [0u8; CHANNEL_ANSWER_SIZE];
+    if read_full(file, &mut record)? == 0 {
+        return Ok(Case::End);
+    }
+    read_full(file, &mut operation)?;
+    read_full(file, &mut after)?;
+    if read_full(file, &mut told)? < CHANNEL_ANSWER_SIZE {
+        return Ok(Case::Differs);
+    }
     let mut answer = [OLD_ANSWER; CHANNEL_ANSWER_SIZE];
     let status = pit::pit_channel_operation(
         &mut record,
@@ -37,15 +76,17 @@ fn leaves_record(
         operation[1],
         operation[2],
     );
-    status == 0 && record == *after && answer.as_slice() == told
+    if status != 0 {
+        return Ok(Case::Differs);
+    }
+    if record != after {
+        return Ok(Case::Differs);
+    }
+    Ok(case_of(answer == told))
 }
 
-// Whether the case agrees; nothing where it is cut off.
-fn channel_case(case: &[u8]) -> Option<bool> {
-    let (before, rest) = case.split_first_chunk::<CHANNEL_SIZE>()?;
-    let (operation, rest) = rest.split_first_chunk::<3>()?;
-    let (after, told) = rest.split_first_chunk::<CHANNEL_SIZE>()?;
-    Some(leaves_record(*before, operation, after, told))
+fn wide(byte: u8) -> u32 {
+    byte as u32
 }
 
 // An operation on a board is its place in the event bytes (8 bytes), code (1), target (2) and number (4), and the status that it has (1).
@@ -58,7 +99,7 @@ fn place_in(operation: &[u8; 16]) -> usize {
 // The status of the operation, with the first event bytes lent and the rest kept back.
 fn operate(
     board: &mut [u8],
-    lent: u8,
+    lent: u32,
     events: &mut [u8],
     operation: &[u8; 16],
     answer: &mut [u8],
@@ -81,78 +122,109 @@ fn operate(
     )
 }
 
-// The board, the event bytes, lent or kept back, and the answer.
+// The board before the operation; how many event bytes are lent, and the eight of which they are the first; the operation; the board, the event bytes and
+// the answer after it.
+fn board_case<R: Read>(file: &mut R) -> io::Result<Case> {
+    let mut board = [0u8; BOARD_SIZE];
+    let mut lent = [0u8; 1];
+    let mut events = [0u8; 8];
+    let mut operation = [0u8; 16];
+    let mut after = [0u8; BOARD_SIZE];
+    let mut events_after = [0u8; 8];
+    let mut told = [0u8; BOARD_ANSWER_SIZE];
+    if read_full(file, &mut board)? == 0 {
+        return Ok(Case::End);
+    }
+    read_full(file, &mut lent)?;
+    read_full(file, &mut events)?;
+    read_full(file, &mut operation)?;
+    read_full(file, &mut after)?;
+    read_full(file, &mut events_after)?;
+    if read_full(file, &mut told)? < BOARD_ANSWER_SIZE {
+        return Ok(Case::Differs);
+    }
+    let mut answer = [OLD_ANSWER; BOARD_ANSWER_SIZE];
+    let lent = wide(lent[0]);
+    let status = operate(&mut board, lent, &mut events, &operation, &mut answer);
+    if status != wide(operation[15]) {
+        return Ok(Case::Differs);
+    }
+    if board != after {
+        return Ok(Case::Differs);
+    }
+    if events != events_after {
+        return Ok(Case::Differs);
+    }
+    Ok(case_of(answer == told))
+}
+
+// A trace or a text in the file: its length and its bytes.
 #[derive(Clone, Copy)]
-struct Lent {
-    board: [u8; BOARD_SIZE],
-    events: [u8; 8],
-    answer: [u8; BOARD_ANSWER_SIZE],
+enum Part {
+    Whole(usize),
+    // It is cut off, or longer than the bytes that are lent.
+    Broken,
+    End,
 }
 
-// The status of the operation, and what it leaves of the bytes.
-fn left_by(operation: &[u8; 16], room: u8, before: Lent) -> (u32, Lent) {
-    let Lent {
-        mut board,
-        mut events,
-        mut answer,
-    } = before;
-    let status = operate(&mut board, room, &mut events, operation, &mut answer);
-    (
-        status,
-        Lent {
-            board,
-            events,
-            answer,
-        },
-    )
-}
-
-// Whether the case agrees; nothing where it is cut off.
-fn board_case(case: &[u8]) -> Option<bool> {
-    let (board, rest) = case.split_first_chunk::<BOARD_SIZE>()?;
-    let (room, rest) = rest.split_first()?;
-    let (events, rest) = rest.split_first_chunk::<8>()?;
-    let (operation, rest) = rest.split_first_chunk::<16>()?;
-    let (board_after, rest) = rest.split_first_chunk::<BOARD_SIZE>()?;
-    let (events_after, told) = rest.split_first_chunk::<8>()?;
-    let before = Lent {
-        board: *board,
-        events: *events,
-        answer: [OLD_ANSWER; BOARD_ANSWER_SIZE],
-    };
-    let (status, after) = left_by(operation, *room, before);
-    let as_told = status == operation[15] as u32 && after.answer.as_slice() == told;
-    Some(as_told && after.board == *board_after && after.events == *events_after)
-}
-
-// A trace or a text in the file, behind its length, and what follows it.
-fn part_of(bytes: &[u8]) -> Option<(&[u8], &[u8])>
-    ensures { IfSome result (λ parts. length parts.1.now < length bytes.now) }
-{
-    let (head, rest) = bytes.split_first_chunk::<4>()?;
-    rest.split_at_checked(numbers::number_at(head, 0) as usize)
+// The bytes of a part, read to the front of those that are lent, and their number.
+fn read_part<R: Read>(file: &mut R, part: &mut [u8]) -> io::Result<Part> {
+    let mut head = [0u8; 4];
+    let got = read_full(file, &mut head)?;
+    if got == 0 {
+        return Ok(Part::End);
+    }
+    if got < 4 {
+        return Ok(Part::Broken);
+    }
+    let length = numbers::number_at(&head, 0) as usize;
+    if part.len() < length {
+        return Ok(Part::Broken);
+    }
+    if read_full(file, &mut part[..length])? < length {
+        return Ok(Part::Broken);
+    }
+    Ok(Part::Whole(length))
 }
 
 // Whether a replay of the trace answers 0 and the text's length, and writes the text.
-fn replays(trace: &[u8], text: &[u8], out: &mut [u8]) -> bool {
+fn replays(trace: &[u8], text: &[u8]) -> bool {
+    let mut out = [0u8; TEXT_ROOM];
     let mut answer = [0u8; BOARD_ANSWER_SIZE];
-    if pit::pit_replay(trace, out, &mut answer) != 0 {
+    if pit::pit_replay(trace, &mut out, &mut answer) != 0 {
         return false;
     }
     let length = numbers::number_at(&answer, 0) as usize;
-    if length != text.len() || numbers::number_at(&answer, 4) != 0 {
+    if length != text.len() {
+        return false;
+    }
+    if numbers::number_at(&answer, 4) != 0 {
         return false;
     }
     out.get(..length) == Some(text)
 }
 
-// Whether the trace's replay prints the text, and the cases that follow; nothing where the case is cut off.
-fn trace_case<'a>(bytes: &'a [u8], out: &mut [u8]) -> Option<(bool, &'a [u8])>
-    ensures { IfSome result (λ judged. length judged.1.now < length bytes.now) }
-{
-    let (trace, behind) = part_of(bytes)?;
-    let (text, rest) = part_of(behind)?;
-    Some((replays(trace, text, out), rest))
+fn text_case<R: Read>(file: &mut R, trace: &[u8]) -> io::Result<Case> {
+    let mut text = [0u8; TEXT_ROOM];
+    let part = read_part(file, &mut text)?;
+    let Part::Whole(length) = part else {
+        return Ok(Case::Differs);
+    };
+    let whole = text.len().min(length);
+    Ok(case_of(replays(trace, &text[..whole])))
+}
+
+// The trace, and the text that its replay prints.
+fn trace_case<R: Read>(file: &mut R) -> io::Result<Case> {
+    let mut trace = [0u8; TRACE];
+    match read_part(file, &mut trace)? {
+        Part::Whole(length) => {
+            let whole = trace.len().min(length);
+            text_case(file, &trace[..whole])
+        }
+        Part::Broken => Ok(Case::Differs),
+        Part::End => Ok(Case::End),
+    }
 }
 
 #[derive(Clone, Copy)]
@@ -162,80 +234,68 @@ enum Kind {
     Traces,
 }
 
+fn next_case<R: Read>(file: &mut R, kind: Kind) -> io::Result<Case> {
+    match kind {
+        Kind::Channels => channel_case(file),
+        Kind::Boards => board_case(file),
+        Kind::Traces => trace_case(file),
+    }
+}
+
 #[derive(Clone, Copy)]
 struct Tally {
-    cases: usize,
-    differing: usize,
+    cases: u64,
+    differing: u64,
 }
 
-// One that the end of the file cuts off differs.
-fn channels(bytes: &[u8]) -> Tally {
-    let cases = bytes.chunks(CHANNEL_CASE);
-    let differing = bytes
-        .chunks(CHANNEL_CASE)
-        .filter(|case| channel_case(case) != Some(true));
-    Tally {
-        cases: cases.count(),
-        differing: differing.count(),
-    }
-}
-
-// The same of boards.
-fn boards(bytes: &[u8]) -> Tally {
-    let cases = bytes.chunks(BOARD_CASE);
-    let differing = bytes
-        .chunks(BOARD_CASE)
-        .filter(|case| board_case(case) != Some(true));
-    Tally {
-        cases: cases.count(),
-        differing: differing.count(),
-    }
-}
-
-// The same of traces.
-fn traces(bytes: &[u8], out: &mut [u8]) -> Tally {
-    let mut cases = 0;
-    let mut differing = 0;
-    let mut rest = bytes;
-    while !rest.is_empty() {
+fn replay<R: Read>(file: &mut R, kind: Kind) -> io::Result<Tally> {
+    let mut cases: u64 = 0;
+    let mut differing: u64 = 0;
+    while cases < MOST {
+        let case = next_case(file, kind)?;
         cases += 1;
-        let (agrees, behind) = trace_case(rest, out).unwrap_or((false, &[]));
-        if !agrees {
-            differing += 1;
+        match case {
+            Case::Agrees => {}
+            Case::Differs => {
+                differing += 1;
+            }
+            Case::End => {
+                return Ok(Tally {
+                    cases: cases - 1,
+                    differing,
+                });
+            }
         }
-        rest = behind;
     }
-    Tally { cases, differing }
+    Ok(Tally { cases, differing })
 }
 
-// A file that cannot be opened has no cases, and an argument that is not there names none.
-fn read_sample<R: Files + AllocGlobal>(rt: &R, name: &str) -> io::Result<Vec<u8>> {
-    let mut bytes = Vec::new(rt.alloc());
-    if let Ok(mut file) = fs::open(rt, name) {
-        file.read_to_end(&mut bytes)?;
+// A file that cannot be opened has no cases.
+fn replay_named<R: Files>(rt: &R, name: &[u8], kind: Kind) -> io::Result<Tally> {
+    if let Ok(path) = str::from_utf8(name) {
+        if let Ok(mut file) = File::open(rt, path) {
+            return replay(&mut file, kind);
+        }
     }
-    Ok(bytes)
+    Ok(Tally {
+        cases: 0,
+        differing: 0,
+    })
 }
 
-fn replay<R: Files + AllocGlobal + Print>(rt: &R, name: &str, kind: Kind) -> io::Result<()> {
-    let sample = read_sample(rt, name)?;
-    let bytes = sample.as_slice();
-    let tally = match kind {
-        Kind::Channels => channels(bytes),
-        Kind::Boards => boards(bytes),
-        Kind::Traces => {
-            let mut out = vec![in rt.alloc(); 0u8; TEXT_ROOM]?;
-            traces(bytes, out.as_mut_slice())
-        }
+fn replay_argument<R: Env + Files + Print>(rt: &R, argument: usize, kind: Kind) -> io::Result<()> {
+    let mut room = [0u8; NAME_ROOM];
+    let name = match rt.arg(argument, &mut room) {
+        Ok(length) => &room[..length],
+        Err(_) => b"",
     };
-    println!(rt; "{name}: {} cases, {} differ", tally.cases, tally.differing)
+    let tally = replay_named(rt, name, kind)?;
+    rt.write_all(name)?;
+    println!(rt; ": {} cases, {} differ", tally.cases, tally.differing)
 }
 
 fn main(rt: HostRuntime) -> io::Result<()> {
-    let mut names = env::args(&rt)?.skip(1);
-    for kind in [Kind::Channels, Kind::Boards, Kind::Traces] {
-        let name = names.next().unwrap_or(String::new(rt.alloc()));
-        replay(&rt, name.as_str(), kind)?;
-    }
-    Ok(())
+    replay_argument(&rt, 1, Kind::Channels)?;
+    replay_argument(&rt, 2, Kind::Boards)?;
+    replay_argument(&rt, 3, Kind::Traces)
 }
