@@ -80,7 +80,14 @@ progress() { # PROGRAM
     done
 }
 
-# Proves and builds a program where it is missing or a source is newer. Only rt run builds one, and it runs it too: here on nothing, and its status is then the program's. So
+# Whether a program prints on its test what it has to.
+tested() { # PROGRAM
+    local folder=$root/crates/$1 words=()
+    [ ! -f "$folder/args" ] || mapfile -t words <"$folder/args"
+    "$folder/out/$1" "${words[@]}" <"$folder/stdin" 2>/dev/null | cmp -s - "$folder/stdout"
+}
+
+# Proves, builds and tests a program where it is missing or a source is newer. Only rt run builds one, and it runs it too: here on nothing, and its status is then the program's. So
 # what tells that all went well is the line with which rt starts it.
 ready() { # PROGRAM
     local passed=$root/target/stamp/$1 log=$root/target/log/$1.log
@@ -98,6 +105,7 @@ ready() { # PROGRAM
         tail -n 10 "$log" | cut -c 1-300 >&2
         fail "the program $1 is not proved; all that rt said is in $log"
     fi
+    tested "$1" || fail "the program $1 does not print what crates/$1/stdout has"
     touch -r "$log.began" "$passed"
 }
 
