@@ -8,13 +8,13 @@ use runner::lending::Replayed;
 use std::io::Write;
 use std::process::ExitCode;
 
-// One sentence of a trace that does not pass, and nothing of one that does.
+// One sentence of a trace that does not pass, and nothing of one that does. That it could not be written is let go.
 fn say_fault<E: Write>(error: &mut E, trace: &[u8]) -> Verdict {
     match checkpoint::checking::check(trace) {
         Checked::Right(_) => Verdict::Sound,
         Checked::Refused(fault) => {
             let sentence = words::fault_sentence(trace, fault);
-            console::say(error, &sentence.bytes, sentence.len);
+            let _ = console::print_first(error, &sentence.bytes, sentence.len);
             Verdict::Refused
         }
     }

@@ -55,13 +55,6 @@ pub fn print_first<W: Write>(output: &mut W, text: &[u8], number: usize) -> Resu
     print(output, &text[..number])
 }
 
-/// The first bytes of a text. That they could not be said is let go.
-pub fn say<W: Write>(error: &mut W, text: &[u8], length: usize) {
-    if length <= text.len() {
-        let _ = error.write_all(&text[..length]);
-    }
-}
-
 // A closed pipe is no failure to speak of: who reads the output wants no more of it.
 fn status_of(verdict: Result<Verdict, Failure>) -> u8
     ensures { result ≡ status_of verdict }

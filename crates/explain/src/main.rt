@@ -115,9 +115,10 @@ fn explain_front<W: Write>(output: &mut W, trace: &[u8]) -> Result<(), Failure> 
     }
 }
 
+// That the sentence could not be written is let go.
 fn say_fault<E: Write>(error: &mut E, trace: &[u8], fault: Fault) {
     let sentence = words::fault_sentence(trace, fault);
-    console::say(error, &sentence.bytes, sentence.len);
+    let _ = console::print_first(error, &sentence.bytes, sentence.len);
 }
 
 fn explain<W: Write, E: Write>(

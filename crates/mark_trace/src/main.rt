@@ -10,12 +10,12 @@ use std::process::ExitCode;
 use trace::Fault;
 use trace::head::Judged;
 
-// The line that the replay prints, and a sentence.
+// The line that the replay prints, and a sentence. That they could not be written is let go.
 fn say_fault<E: Write>(error: &mut E, trace: &[u8], fault: Fault) {
     let line = line::line_of(Sentence::Fault(fault));
-    console::say(error, &line.bytes, line.len);
+    let _ = console::print_first(error, &line.bytes, line.len);
     let sentence = words::fault_sentence(trace, fault);
-    console::say(error, &sentence.bytes, sentence.len);
+    let _ = console::print_first(error, &sentence.bytes, sentence.len);
 }
 
 fn write_marked<W: Write>(output: &mut W, trace: &[u8]) -> Result<(), Failure> {

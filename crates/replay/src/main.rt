@@ -7,13 +7,13 @@ use std::io::Write;
 use std::process::ExitCode;
 use trace::head::Judged;
 
-// One sentence of a refused trace, and nothing of a sound one.
+// One sentence of a refused trace, and nothing of a sound one. That it could not be written is let go.
 fn say_fault<E: Write>(error: &mut E, trace: &[u8]) -> Verdict {
     match trace::judge(trace) {
         Judged::Sound(_) => Verdict::Sound,
         Judged::Refused(fault) => {
             let sentence = words::fault_sentence(trace, fault);
-            console::say(error, &sentence.bytes, sentence.len);
+            let _ = console::print_first(error, &sentence.bytes, sentence.len);
             Verdict::Refused
         }
     }

@@ -22,12 +22,12 @@ fn checkpoint_asked(rt: &impl Env) -> u32 {
     }
 }
 
-// One sentence where no replay begins, and nothing where one does.
+// One sentence where no replay begins, and nothing where one does. That it could not be written is let go.
 fn say_fault<E: Write>(error: &mut E, trace: &[u8], k: u32) -> Verdict {
     match checkpoint::starting::start_of(trace, k) {
         Start::Refused(fault) => {
             let sentence = words::fault_sentence(trace, fault);
-            console::say(error, &sentence.bytes, sentence.len);
+            let _ = console::print_first(error, &sentence.bytes, sentence.len);
             Verdict::Refused
         }
         Start::There => Verdict::Sound,

@@ -20,7 +20,7 @@ module _ (text bytes : List ℕ) (place : ℕ) (room : place + length text ≤ l
   unfolding put
   put-fits = simp (le-ltb (length bytes) (place + length text) room)
 
-  -- what `bytes::copy` leaves in the tail, seen from the whole
+  -- what `copy_from_slice` leaves in the tail, seen from the whole
   pub put_back : (tail : List ℕ) → tail ≡ take (length text) text ++ drop (length text) (take (length bytes - place) (drop place bytes))
       → answered (place + length text) (put_mid place (length bytes - place) bytes tail) ≡ put text bytes place
   put_back tail e =
