@@ -37,7 +37,7 @@ unfolding new_status new_after
 returns c =
     let a = c.args in
     let long = le-ltb _ _ c.if-bytes-lt-BOARD_SIZE.false in
-    let known = le-ltb _ _ c.if-model-gt1.false in
+    let known = le-ltb 1 _ c.if-model-gt1.false in
     let made = c.new-made.ensures ∙ ap (λ m. new m a.divisor) c.numbered.ensures in
     let number = ap (λ (o : Outcome). number_in o.reply) (sym made) ∙ ap (λ r. number_in (reply_of r)) c.in-Refused.is in
     (c.number.ensures ∙ simp (long, known, number), simp (long, known, number, number-set))
