@@ -105,6 +105,7 @@ ready() { # PROGRAM
         tail -n 10 "$log" | cut -c 1-300 >&2
         fail "the program $1 is not proved; all that rt said is in $log"
     fi
+    command -v cmp >/dev/null || fail "cmp, by which the program's test is compared, is not found"
     tested "$1" || fail "the program $1 does not print what crates/$1/stdout has"
     touch -r "$log.began" "$passed"
 }
