@@ -1,10 +1,10 @@
 // What the programs of a recorded trace share: a trace from standard input, a text to standard output, a sentence to standard error, and the status to end with.
 #![tactic(auto)]
 
-ghost use Rattle.std.specs.Prelude.{◌≡◌, ◌≤◌, length, take, OnOk, IfOk, IfSome};
+ghost use Rattle.std.specs.Prelude.{◌≡◌, ◌≤◌, ◌<◌, length, take, OnOk, IfOk, IfErr, IfSome};
 ghost use Rattle.std.specs.Io.KnownBytes.{Appends};
 ghost use Rattle.std.specs.Process.{exit_status};
-ghost use Rattle.console.specs.Status.{status_of};
+ghost use Rattle.console.specs.Status.{status_of, IsReading, IsWriting};
 
 use std::alloc::{AllocError, Global};
 use std::io;
@@ -30,7 +30,8 @@ pub enum Failure {
 
 /// The first bytes of the input, all of them where there are no more.
 pub fn read_trace<R: Read + Drop>(alloc: Global, input: R) -> Result<Vec<u8>, Failure>
-    ensures { IfOk result (λ trace. IfSome (R.remaining input) (λ bytes. trace.items ≡ take MOST_BYTES bytes)) }
+    ensures ok { IfOk result (λ trace. IfSome (R.remaining input) (λ bytes. trace.items ≡ take MOST_BYTES bytes)) }
+    ensures err { IfErr result IsReading }
 {
     let mut trace = Vec::new(alloc);
     match input.take(MOST_BYTES).read_to_end(&mut trace) {
@@ -40,14 +41,17 @@ pub fn read_trace<R: Read + Drop>(alloc: Global, input: R) -> Result<Vec<u8>, Fa
 }
 
 pub fn print<W: Write>(output: &mut W, text: &[u8]) -> Result<(), Failure>
-    ensures { OnOk result (Appends (W.contents output.old) (W.contents output.new) text.now) }
+    ensures ok { OnOk result (Appends (W.contents output.old) (W.contents output.new) text.now) }
+    ensures err { IfErr result IsWriting }
 {
     output.write_all(text).map_err(Failure::CannotWrite)
 }
 
 /// The first bytes of a text, nothing where it has fewer.
 pub fn print_first<W: Write>(output: &mut W, text: &[u8], number: usize) -> Result<(), Failure>
-    ensures { number ≤ length text.now → OnOk result (Appends (W.contents output.old) (W.contents output.new) (take number text.now)) }
+    ensures ok { number ≤ length text.now → OnOk result (Appends (W.contents output.old) (W.contents output.new) (take number text.now)) }
+    ensures fewer { length text.now < number → output.new ≡ output.old }
+    ensures err { IfErr result IsWriting }
 {
     if text.len() < number {
         return Ok(());
