@@ -7,7 +7,7 @@ ghost use Rattle.control.specs.Control.{mode_of, access_of, read_back_of, names,
 use channel::{ChannelMode, ControlWord, PitType, RwMode};
 
 // What a read-back asks for: counts, status, or both, of the channels that it names.
-#[derive(Clone, Copy)]
+#[derive(Clone, Copy, Debug, PartialEq, Eq)]
 pub struct ReadBackWord {
     pub counts: bool,
     pub status: bool,
@@ -16,7 +16,7 @@ pub struct ReadBackWord {
     pub names_2: bool,
 }
 
-#[derive(Clone, Copy)]
+#[derive(Clone, Copy, Debug, PartialEq, Eq)]
 pub enum Command {
     // Channel 3, but for the 8254's read-back.
     Nothing,
@@ -43,13 +43,7 @@ impl ReadBackWord {
     pub fn names_any(self) -> bool
         ensures { result ≡ names_any self }
     {
-        if self.names_0 {
-            return true;
-        }
-        if self.names_1 {
-            return true;
-        }
-        self.names_2
+        self.names_0 || self.names_1 || self.names_2
     }
 }
 
@@ -57,23 +51,20 @@ fn mode_of(n: u8) -> ChannelMode
     requires { n < 8 }
     ensures { result ≡ mode_of n }
 {
-    if 5 < n {
-        ChannelMode::numbered(n - 4)
-    } else {
-        ChannelMode::numbered(n)
+    match n {
+        6 | 7 => ChannelMode::numbered(n - 4),
+        _ => ChannelMode::numbered(n),
     }
 }
 
 fn access_of(n: u8) -> RwMode
     ensures { result ≡ access_of n }
 {
-    if n == 1 {
-        return RwMode::Lsb;
+    match n {
+        1 => RwMode::Lsb,
+        2 => RwMode::Msb,
+        _ => RwMode::LsbMsb,
     }
-    if n == 2 {
-        return RwMode::Msb;
-    }
-    RwMode::LsbMsb
 }
 
 // Bits 5 and 4 ask where they are clear.
@@ -93,34 +84,27 @@ fn channel_three(byte: u8, model: PitType) -> Command
     ensures { result ≡ channel_three model byte }
 {
     match model {
-        PitType::Model8253 => Command::Nothing,
-        PitType::Model8254 => {
-            if byte % 2 == 1 {
-                return Command::Nothing;
-            }
-            Command::ReadBack(read_back_of(byte))
-        }
+        PitType::Model8254 if byte % 2 == 0 => Command::ReadBack(read_back_of(byte)),
+        _ => Command::Nothing,
     }
 }
 
+#[tactic(auto, unfolding(crate::specs::Control::command_of))]
 pub fn command_of(byte: u8, model: PitType) -> Command
     ensures { result ≡ command_of model byte }
 {
     let channel = byte / 64;
-    if channel == 3 {
-        return channel_three(byte, model);
-    }
     let access = byte / 16 % 4;
-    if access == 0 {
-        return Command::LatchCount(channel);
+    match (channel, access) {
+        (3, _) => channel_three(byte, model),
+        (_, 0) => Command::LatchCount(channel),
+        _ => Command::SetMode(
+            channel,
+            ControlWord {
+                mode: mode_of(byte / 2 % 8),
+                rw_mode: access_of(access),
+                bcd_mode: byte % 2 == 1,
+            },
+        ),
     }
-    let rw_mode = access_of(access);
-    let mode = mode_of(byte / 2 % 8);
-    let bcd_mode = byte % 2 == 1;
-    let word = ControlWord {
-        mode,
-        rw_mode,
-        bcd_mode,
-    };
-    Command::SetMode(channel, word)
 }

@@ -12,12 +12,8 @@ from_at first zero k h = absurd (not-suc-le-zero h)
 from_at first (suc n) zero h = ap packed (sym (add-zero first))
 from_at first (suc n) (suc k) h = from_at (suc first) n k (le_of_suc-le-suc h) ∙ ap packed (suc-add first k ∙ sym (add-suc first k))
 
--- a row of a hundred
-abbrev pub hundred_from : ℕ → List ℕ
-hundred_from first = packed_from first 100
-
-pub packed-at : (first k v : ℕ) → first + k ≡ v → v < first + 100 → get_or (hundred_from first) k 0 ≡ packed v
-packed-at first k v at high = from_at first 100 k (omega arith) ∙ ap packed at
+pub packed-at : (first n k v : ℕ) → first + k ≡ v → v < first + n → get_or (packed_from first n) k 0 ≡ packed v
+packed-at first n k v at high = from_at first n k (omega arith) ∙ ap packed at
 
 -- one division by ten takes off one digit, and the thousands stay apart
 thousands-beside : (a r : ℕ) → a < 10 → r < 1000 → 4096 * a + packed r ≡ packed (1000 * a + r)

@@ -33,11 +33,9 @@ fn by_table(element: u16, number: u32) -> u16
 pub(crate) fn decimal_steps(element: u16, number: u32) -> u16
     ensures { result ≡ times number decimal_step element }
 {
-    if number < FEW {
-        return by_digits(element, number);
+    if number >= FEW && numbers::good_digits(element) {
+        by_table(element, number)
+    } else {
+        by_digits(element, number)
     }
-    if numbers::good_digits(element) {
-        return by_table(element, number);
-    }
-    by_digits(element, number)
 }

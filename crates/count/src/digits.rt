@@ -7,7 +7,7 @@ ghost use Rattle.count.specs.Inner.{FourBits};
 
 use crate::lending::many_less;
 
-#[derive(Clone, Copy)]
+#[derive(Clone, Copy, Debug, PartialEq, Eq)]
 pub(crate) struct Digits {
     pub thousands: u8,
     pub hundreds: u8,
@@ -19,8 +19,7 @@ pub(crate) struct Digits {
 fn digits_of(element: u16) -> Digits
     ensures { result ≡ digits_of element }
 {
-    let high = (element / 256) as u8;
-    let low = (element % 256) as u8;
+    let [low, high] = element.to_le_bytes();
     Digits {
         thousands: high / 16,
         hundreds: high % 16,
@@ -42,13 +41,14 @@ fn element_of(d: Digits) -> u16
 fn after_lending(digit: u8) -> u8
     ensures { result ≡ after_lending digit }
 {
-    if digit > 0 {
-        return digit - 1;
+    match digit {
+        0 => 9,
+        _ => digit - 1,
     }
-    9
 }
 
 // The ones lend first. At a digit above 0 the borrow ends; a 0 borrows from the next. The digits above stay as they are.
+#[tactic(auto, unfolding(crate::specs::Borrow::one_less))]
 fn one_less(d: Digits) -> Digits
     ensures { result ≡ one_less d }
 {

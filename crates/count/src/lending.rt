@@ -5,7 +5,7 @@ ghost use Rattle.count.specs.Lending.{lends, many_less};
 use crate::digits::Digits;
 
 // What is left of a digit that lent, and how often it borrowed from the next digit up.
-#[derive(Clone, Copy)]
+#[derive(Clone, Copy, Debug, PartialEq, Eq)]
 struct Lent {
     left: u8,
     borrows: u32,
@@ -14,7 +14,7 @@ struct Lent {
 fn lends(digit: u8, number: u32) -> Lent
     ensures { result ≡ lends digit number }
 {
-    let has = digit as u32;
+    let has = u32::from(digit);
     if number <= has {
         return Lent {
             left: (has - number) as u8,
@@ -28,6 +28,7 @@ fn lends(digit: u8, number: u32) -> Lent
     }
 }
 
+#[tactic(auto, unfolding(crate::specs::Lending::many_less))]
 pub(crate) fn many_less(d: Digits, number: u32) -> Digits
     ensures { result ≡ many_less number d }
 {

@@ -22,16 +22,15 @@ pub fn step_in(bcd: bool, element: u16) -> u16
     if bcd {
         decimal_step(element)
     } else {
-        std::num::wrapping_sub_u16(element, 1)
+        element.wrapping_sub(1)
     }
 }
 
+#[tactic(auto, unfolding(crate::specs::Count::count))]
 pub fn count(c: Channel) -> Channel
     ensures { result ≡ count c }
 {
-    let w = c.control;
-    let k = c.counter;
-    let element = step_in(w.bcd_mode, k.counting_element);
+    let element = step_in(c.control.bcd_mode, c.counter.counting_element);
     let mut next = c.put_element(element);
     next.counter.ticked = true;
     next
@@ -44,7 +43,7 @@ pub fn steps_in(bcd: bool, element: u16, number: u32) -> u16
     if bcd {
         decimal_steps(element, number)
     } else {
-        std::num::wrapping_sub_u16(element, (number % 65536) as u16)
+        element.wrapping_sub((number % 65536) as u16)
     }
 }
 
@@ -53,42 +52,32 @@ fn counted_element(bcd: bool, element: u16, number: u32) -> u16
     ensures { result ≡ times number (step_in bcd) element }
 {
     if number == 1 {
-        return step_in(bcd, element);
+        step_in(bcd, element)
+    } else {
+        steps_in(bcd, element, number)
     }
-    steps_in(bcd, element, number)
 }
 
 pub fn followed_by(number: u32, l: Latch, element: u16) -> Latch
     ensures { result ≡ followed_by number l element }
 {
-    if number == 0 {
-        return l;
-    }
-    l.follow(element)
+    if number == 0 { l } else { l.follow(element) }
 }
 
 pub fn ticked_by(number: u32, ticked: bool) -> bool
     ensures { result ≡ ticked_by number ticked }
 {
-    if number == 0 {
-        return ticked;
-    }
-    true
+    ticked || number > 0
 }
 
 // That many single counts. The record is put together once, not stepped count by count: docs/PERFORMANCE.md.
 pub fn counts(c: Channel, number: u32) -> Channel
     ensures { result ≡ times number count c }
 {
-    let w = c.control;
-    let k = c.counter;
-    let l = c.latch;
-    let element = counted_element(w.bcd_mode, k.counting_element, number);
-    let latch = followed_by(number, l, element);
-    let ticked = ticked_by(number, k.ticked);
+    let element = counted_element(c.control.bcd_mode, c.counter.counting_element, number);
     let mut next = c;
     next.counter.counting_element = element;
-    next.counter.ticked = ticked;
-    next.latch = latch;
+    next.counter.ticked = ticked_by(number, c.counter.ticked);
+    next.latch = followed_by(number, c.latch, element);
     next
 }

@@ -15,17 +15,17 @@ pub use radix::{good_digits, radix_counts, weight};
 pub fn flag_byte(flag: bool) -> u8
     ensures { result ≡ flag_number flag }
 {
-    if flag { 1 } else { 0 }
+    u8::from(flag)
 }
 
 pub fn word(low: u8, high: u8) -> u16
     ensures { result ≡ low + 256 * high }
 {
-    low as u16 + 256 * (high as u16)
+    u16::from_le_bytes([low, high])
 }
 
 pub fn long(low: u16, high: u16) -> u32
     ensures { result ≡ low + 65536 * high }
 {
-    low as u32 + 65536 * (high as u32)
+    u32::from(low) + 65536 * u32::from(high)
 }

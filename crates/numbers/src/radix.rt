@@ -6,28 +6,20 @@ ghost use Rattle.numbers.specs.Radix.{radix_counts};
 pub fn radix_counts(bcd: bool) -> u32
     ensures { result ≡ radix_counts bcd }
 {
-    if bcd {
-        return 10000;
-    }
-    65536
+    if bcd { 10000 } else { 65536 }
 }
 
 pub fn good_digits(element: u16) -> bool
     ensures { result ≡ good_digits element }
 {
-    if element % 16 > 9 {
-        return false;
-    }
-    if element / 16 % 16 > 9 {
-        return false;
-    }
-    if element / 16 / 16 % 16 > 9 {
-        return false;
-    }
-    element / 16 / 16 / 16 % 16 < 10
+    element % 16 < 10
+        && element / 16 % 16 < 10
+        && element / 16 / 16 % 16 < 10
+        && element / 16 / 16 / 16 % 16 < 10
 }
 
 // Digits above 9 have their weight too.
+#[tactic(auto, unfolding(crate::specs::Digits::weight))]
 pub fn weight(element: u16) -> u16
     ensures { result ≡ weight element }
 {
