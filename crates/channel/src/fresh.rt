@@ -29,47 +29,41 @@ impl Channel {
     }
 
     // A fresh channel whose gate is at a level.
+    #[tactic(auto, unfolding(crate::specs::Fresh::fresh_at))]
     pub fn fresh_at(gate: bool) -> Channel
         ensures { result ≡ fresh_at gate }
     {
-        let control = ControlWord {
-            mode: ChannelMode::InterruptOnTerminalCount,
-            rw_mode: RwMode::LsbMsb,
-            bcd_mode: false,
-        };
-        let reloading = Reloading {
-            output_on_reload: false,
-            reload_on_trigger: false,
-            load_mask: 0xFFFF,
-        };
-        let load = Load::fresh();
-        let counter = Counter {
-            channel_state: ChannelState::WaitingForReload,
-            cycles_in_state: 0,
-            counting_element: 0,
-            ticked: false,
-        };
-        let latch = Latch {
-            output_latch: 0,
-            count_is_latched: false,
-            read_state: ReadState::NoRead,
-        };
-        let pins = Pins {
-            gate,
-            output: false,
-        };
-        let status = Status {
-            status_latch: 0,
-            null_count: false,
-        };
         Channel {
-            control,
-            reloading,
-            load,
-            counter,
-            latch,
-            pins,
-            status,
+            control: ControlWord {
+                mode: ChannelMode::InterruptOnTerminalCount,
+                rw_mode: RwMode::LsbMsb,
+                bcd_mode: false,
+            },
+            reloading: Reloading {
+                output_on_reload: false,
+                reload_on_trigger: false,
+                load_mask: 0xFFFF,
+            },
+            load: Load::fresh(),
+            counter: Counter {
+                channel_state: ChannelState::WaitingForReload,
+                cycles_in_state: 0,
+                counting_element: 0,
+                ticked: false,
+            },
+            latch: Latch {
+                output_latch: 0,
+                count_is_latched: false,
+                read_state: ReadState::NoRead,
+            },
+            pins: Pins {
+                gate,
+                output: false,
+            },
+            status: Status {
+                status_latch: 0,
+                null_count: false,
+            },
             dirty: false,
         }
     }
@@ -78,7 +72,6 @@ impl Channel {
     pub fn reset(self) -> Channel
         ensures { result ≡ reset self }
     {
-        let p = self.pins;
-        Channel::fresh_at(p.gate)
+        Channel::fresh_at(self.pins.gate)
     }
 }

@@ -12,14 +12,14 @@ pub mod shared;
 pub mod states;
 
 // Which of Intel's two chips the board carries.
-#[derive(Clone, Copy)]
+#[derive(Clone, Copy, Debug, PartialEq, Eq)]
 pub enum PitType {
     Model8253,
     Model8254,
 }
 
 // Modes 0 to 5, in this order.
-#[derive(Clone, Copy)]
+#[derive(Clone, Copy, Debug, PartialEq, Eq)]
 pub enum ChannelMode {
     InterruptOnTerminalCount,
     HardwareRetriggerableOneShot,
@@ -30,20 +30,20 @@ pub enum ChannelMode {
 }
 
 // The access: low byte, high byte, or low then high.
-#[derive(Clone, Copy)]
+#[derive(Clone, Copy, Debug, PartialEq, Eq)]
 pub enum RwMode {
     Lsb,
     Msb,
     LsbMsb,
 }
 
-#[derive(Clone, Copy)]
+#[derive(Clone, Copy, Debug, PartialEq, Eq)]
 pub enum ReloadFlag {
     Normal,
     ReloadNextCycle,
 }
 
-#[derive(Clone, Copy)]
+#[derive(Clone, Copy, Debug, PartialEq, Eq)]
 pub enum ChannelState {
     WaitingForReload,
     WaitingForGate,
@@ -53,27 +53,27 @@ pub enum ChannelState {
     Counting(ReloadFlag),
 }
 
-#[derive(Clone, Copy)]
+#[derive(Clone, Copy, Debug, PartialEq, Eq)]
 pub enum LoadState {
     WaitingForLsb,
     WaitingForMsb,
 }
 
 // Whether the next complete load is the first since the mode set.
-#[derive(Clone, Copy)]
+#[derive(Clone, Copy, Debug, PartialEq, Eq)]
 pub enum LoadType {
     InitialLoad,
     SubsequentLoad,
 }
 
-#[derive(Clone, Copy)]
+#[derive(Clone, Copy, Debug, PartialEq, Eq)]
 pub enum ReadState {
     NoRead,
     ReadLsb,
 }
 
 // The control word register: what a mode set carries.
-#[derive(Clone, Copy)]
+#[derive(Clone, Copy, Debug, PartialEq, Eq)]
 pub struct ControlWord {
     pub mode: ChannelMode,
     pub rw_mode: RwMode,
@@ -81,7 +81,7 @@ pub struct ControlWord {
 }
 
 // What a mode leaves behind for its loads.
-#[derive(Clone, Copy)]
+#[derive(Clone, Copy, Debug, PartialEq, Eq)]
 pub struct Reloading {
     pub output_on_reload: bool,
     pub reload_on_trigger: bool,
@@ -89,7 +89,7 @@ pub struct Reloading {
 }
 
 // The count register, the reload value, and how far a load has come.
-#[derive(Clone, Copy)]
+#[derive(Clone, Copy, Debug, PartialEq, Eq)]
 pub struct Load {
     pub count_register: u16,
     pub reload_value: u16,
@@ -99,7 +99,7 @@ pub struct Load {
 }
 
 // The counting element and the state it counts in.
-#[derive(Clone, Copy)]
+#[derive(Clone, Copy, Debug, PartialEq, Eq)]
 pub struct Counter {
     pub channel_state: ChannelState,
     pub cycles_in_state: u32,
@@ -108,21 +108,21 @@ pub struct Counter {
 }
 
 // The output latch, which every read comes from.
-#[derive(Clone, Copy)]
+#[derive(Clone, Copy, Debug, PartialEq, Eq)]
 pub struct Latch {
     pub output_latch: u16,
     pub count_is_latched: bool,
     pub read_state: ReadState,
 }
 
-#[derive(Clone, Copy)]
+#[derive(Clone, Copy, Debug, PartialEq, Eq)]
 pub struct Pins {
     pub gate: bool,
     pub output: bool,
 }
 
 // What a status byte needs beside the other groups, and the status latch. Both models have them; only the 8254's read-back shows them.
-#[derive(Clone, Copy)]
+#[derive(Clone, Copy, Debug, PartialEq, Eq)]
 pub struct Status {
     // The status byte that is held, or 0 for none: its access is never 0, so no status byte is.
     pub status_latch: u8,
@@ -130,7 +130,7 @@ pub struct Status {
     pub null_count: bool,
 }
 
-#[derive(Clone, Copy)]
+#[derive(Clone, Copy, Debug, PartialEq, Eq)]
 pub struct Channel {
     pub control: ControlWord,
     // It stands behind the control word so that what lies between is copied in whole words: docs/PERFORMANCE.md.

@@ -48,9 +48,9 @@ impl PitType {
     pub fn numbered(n: u32) -> PitType
         ensures { result ≡ model_numbered n }
     {
-        if n == 0 {
-            return PitType::Model8253;
+        match n {
+            0 => PitType::Model8253,
+            _ => PitType::Model8254,
         }
-        PitType::Model8254
     }
 }

@@ -5,7 +5,7 @@ ghost use Rattle.channel.specs.Queries.{get_output_state, get_channel_count, doe
 use crate::{Channel, ChannelMode};
 
 // The count register, the counting element, and whether the channel is counting.
-#[derive(Clone, Copy)]
+#[derive(Clone, Copy, Debug, PartialEq, Eq)]
 pub struct ChannelCount {
     pub count_register: u16,
     pub counting_element: u16,
@@ -13,7 +13,7 @@ pub struct ChannelCount {
 }
 
 // The three things that is_dirty answers, and the channel with its mark cleared.
-#[derive(Clone, Copy)]
+#[derive(Clone, Copy, Debug, PartialEq, Eq)]
 pub struct DirtyAnswer {
     pub dirty: bool,
     pub counting: bool,
@@ -25,14 +25,10 @@ impl ChannelMode {
     fn retriggers(self) -> bool
         ensures { result ≡ does_retrigger self }
     {
-        match self {
-            ChannelMode::InterruptOnTerminalCount => false,
-            ChannelMode::HardwareRetriggerableOneShot => false,
-            ChannelMode::RateGenerator => true,
-            ChannelMode::SquareWaveGenerator => true,
-            ChannelMode::SoftwareTriggeredStrobe => false,
-            ChannelMode::HardwareTriggeredStrobe => false,
-        }
+        matches!(
+            self,
+            ChannelMode::RateGenerator | ChannelMode::SquareWaveGenerator
+        )
     }
 }
 
@@ -40,45 +36,36 @@ impl Channel {
     pub fn get_output_state(self) -> bool
         ensures { result ≡ get_output_state self }
     {
-        let p = self.pins;
-        p.output
+        self.pins.output
     }
 
     pub fn get_channel_count(self) -> ChannelCount
         ensures { result ≡ get_channel_count self }
     {
-        let l = self.load;
-        let k = self.counter;
-        let state = k.channel_state;
-        let counting = state.is_counting();
         ChannelCount {
-            count_register: l.count_register,
-            counting_element: k.counting_element,
-            counting,
+            count_register: self.load.count_register,
+            counting_element: self.counter.counting_element,
+            counting: self.counter.channel_state.is_counting(),
         }
     }
 
     pub fn does_channel_retrigger(self) -> bool
         ensures { result ≡ does_channel_retrigger self }
     {
-        let w = self.control;
-        let mode = w.mode;
-        mode.retriggers()
+        self.control.mode.retriggers()
     }
 
     pub fn is_dirty(self) -> DirtyAnswer
         ensures { result ≡ is_dirty self }
     {
-        let k = self.counter;
-        let state = k.channel_state;
-        let counting = state.is_counting();
-        let mut c = self;
-        c.dirty = false;
         DirtyAnswer {
             dirty: self.dirty,
-            counting,
-            ticked: k.ticked,
-            channel: c,
+            counting: self.counter.channel_state.is_counting(),
+            ticked: self.counter.ticked,
+            channel: Channel {
+                dirty: false,
+                ..self
+            },
         }
     }
 }

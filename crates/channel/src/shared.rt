@@ -9,67 +9,58 @@ impl Latch {
     pub fn follow(self, element: u16) -> Latch
         ensures { result ≡ followed self element }
     {
-        let latched = self.count_is_latched;
-        if latched {
-            return self;
+        if self.count_is_latched {
+            self
+        } else {
+            Latch {
+                output_latch: element,
+                ..self
+            }
         }
-        let mut l = self;
-        l.output_latch = element;
-        l
     }
 }
 
 impl Channel {
+    #[tactic(auto, unfolding(crate::specs::Shared::change_channel_state))]
     pub fn change_channel_state(self, new_state: ChannelState) -> Channel
         ensures { result ≡ change_channel_state self new_state }
     {
-        let k = self.counter;
-        let old_state = k.channel_state;
-        let counter = Counter {
-            channel_state: new_state,
-            cycles_in_state: 0,
-            counting_element: k.counting_element,
-            ticked: k.ticked,
-        };
-        let mut c = self;
-        c.counter = counter;
-        if old_state.is_counting() {
-            return c;
+        let starts = !self.counter.channel_state.is_counting() && new_state.is_counting();
+        Channel {
+            counter: Counter {
+                channel_state: new_state,
+                cycles_in_state: 0,
+                ..self.counter
+            },
+            dirty: starts || self.dirty,
+            ..self
         }
-        if new_state.is_counting() {
-            c.dirty = true;
-            return c;
-        }
-        c
     }
 
     // The output at a level. The board writes the event where the level differs from before.
-    pub fn change_output_state(self, level: bool) -> Channel
+    #[tactic(auto, unfolding(crate::specs::Shared::change_output_state))]
+    pub fn change_output_state(mut self, level: bool) -> Channel
         ensures { result ≡ change_output_state self level }
     {
-        let mut c = self;
-        c.pins.output = level;
-        c
+        self.pins.output = level;
+        self
     }
 
     // The counting element takes a value, and the output latch follows unless it is latched.
-    pub fn put_element(self, element: u16) -> Channel
+    #[tactic(auto, unfolding(crate::specs::Shared::put_element))]
+    pub fn put_element(mut self, element: u16) -> Channel
         ensures { result ≡ put_element self element }
     {
-        let l = self.latch;
-        let latch = l.follow(element);
-        let mut c = self;
-        c.counter.counting_element = element;
-        c.latch = latch;
-        c
+        self.counter.counting_element = element;
+        self.latch = self.latch.follow(element);
+        self
     }
 
     // What was written last is not loaded yet, or it is.
-    pub fn mark_null_count(self, null_count: bool) -> Channel
+    pub fn mark_null_count(mut self, null_count: bool) -> Channel
         ensures { result ≡ with_null_count self null_count }
     {
-        let mut c = self;
-        c.status.null_count = null_count;
-        c
+        self.status.null_count = null_count;
+        self
     }
 }

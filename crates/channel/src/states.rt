@@ -8,39 +8,18 @@ impl ChannelState {
     pub fn is_counting(self) -> bool
         ensures { result ≡ is_counting self }
     {
-        match self {
-            ChannelState::WaitingForReload => false,
-            ChannelState::WaitingForGate => false,
-            ChannelState::DeferLoadCycle => false,
-            ChannelState::WaitingForLoadCycle => false,
-            ChannelState::WaitingForLoadTrigger => false,
-            ChannelState::Counting(_) => true,
-        }
+        matches!(self, ChannelState::Counting(_))
     }
 
     pub fn waits_for_reload(self) -> bool
         ensures { result ≡ waits_for_reload self }
     {
-        match self {
-            ChannelState::WaitingForReload => true,
-            ChannelState::WaitingForGate => false,
-            ChannelState::DeferLoadCycle => false,
-            ChannelState::WaitingForLoadCycle => false,
-            ChannelState::WaitingForLoadTrigger => false,
-            ChannelState::Counting(_) => false,
-        }
+        matches!(self, ChannelState::WaitingForReload)
     }
 
     pub fn waits_for_cycle(self) -> bool
         ensures { result ≡ waits_for_cycle self }
     {
-        match self {
-            ChannelState::WaitingForReload => false,
-            ChannelState::WaitingForGate => false,
-            ChannelState::DeferLoadCycle => false,
-            ChannelState::WaitingForLoadCycle => true,
-            ChannelState::WaitingForLoadTrigger => false,
-            ChannelState::Counting(_) => false,
-        }
+        matches!(self, ChannelState::WaitingForLoadCycle)
     }
 }

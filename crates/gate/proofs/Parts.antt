@@ -15,21 +15,21 @@ abbrev newly_in : ChannelState → Counter → Counter
 newly_in s k =
     record { channel_state = s; cycles_in_state = 0; counting_element = k.counting_element; ticked = k.ticked }
 
-pub edge-counter : (was level : Bool) (c : Channel)
+pub edge_counter : (was level : Bool) (c : Channel)
     → (edge was level c).counter ≡ cond (enters c.control.mode was level) (newly_in (entered_at level) c.counter) c.counter
 unfolding change_channel_state change_output_state
-edge-counter false false c = refl
-edge-counter false true c = simp (of-pick (λ (d : Channel). d.counter))
-edge-counter true false c = simp (of-pick (λ (d : Channel). d.counter), pick_same)
-edge-counter true true c = refl
+edge_counter false false c = refl
+edge_counter false true c = simp (of-pick (λ (d : Channel). d.counter))
+edge_counter true false c = simp (of-pick (λ (d : Channel). d.counter), pick_same)
+edge_counter true true c = refl
 
-pub edge-output : (was level : Bool) (c : Channel)
+pub edge_output : (was level : Bool) (c : Channel)
     → (edge was level c).pins.output ≡ cond (raises c.control.mode was level) true c.pins.output
 unfolding change_channel_state change_output_state
-edge-output false false c = refl
-edge-output false true c = simp (of-pick (λ (d : Channel). d.pins.output), pick_same)
-edge-output true false c = simp (of-pick (λ (d : Channel). d.pins.output), of-pick (λ (d : Channel). d.control), pick_same)
-edge-output true true c = refl
+edge_output false false c = refl
+edge_output false true c = simp (of-pick (λ (d : Channel). d.pins.output), pick_same)
+edge_output true false c = simp (of-pick (λ (d : Channel). d.pins.output), of-pick (λ (d : Channel). d.control), pick_same)
+edge_output true true c = refl
 
 -- a channel with the counter's group and the output of another
 abbrev with_parts : Channel → Channel → Channel
@@ -59,9 +59,9 @@ after-rest : (b was level : Bool) (c : Channel) → cond b c (edge was level c) 
 after-rest true was level c = refl
 after-rest false was level c = edge-rest was level c
 
-pub gate-by-parts : (c : Channel) (level : Bool)
+pub gate_by_parts : (c : Channel) (level : Bool)
     → set_gate c level
     ≡ with_pins (with_counter c (after_edge c level).counter) (record { gate = level; output = (after_edge c level).pins.output })
 unfolding set_gate
-gate-by-parts c level =
+gate_by_parts c level =
     ap (λ (d : Channel). with_gate d level) (after-rest (waits_for_reload c.counter.channel_state) c.pins.gate level c)

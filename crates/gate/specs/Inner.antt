@@ -1,4 +1,4 @@
--- Not for readers: a level at the gate by parts, as the code has it. It says nothing that `set_gate` does not say (`gate-by-parts`).
+-- Not for readers: a level at the gate by parts, as the code has it. It says nothing that `set_gate` does not say (`gate_by_parts`).
 use Rattle.std.specs.Prelude.{Bool, true, false}
 use Rattle.channel.specs.declared.ChannelMode.{ChannelMode}
 use Rattle.channel.specs.declared.ChannelState.{ChannelState}

@@ -2,64 +2,52 @@
 #![tactic(auto)]
 
 ghost use Rattle.std.specs.Prelude.{◌≡◌};
-ghost use Rattle.gate.specs.Gate.{loads_on_rise, stops_on_fall, high_on_fall, after_edge, set_gate};
+ghost use Rattle.gate.specs.Gate.{loads_on_rise, stops_on_fall, high_on_fall, set_gate};
 ghost use Rattle.gate.specs.Inner.{enters, entered_at, raises};
 
-use channel::{Channel, ChannelMode, ChannelState, Counter};
+use channel::{Channel, ChannelMode, ChannelState, Counter, Pins};
 
 fn loads_on_rise(mode: ChannelMode) -> bool
     ensures { result ≡ loads_on_rise mode }
 {
-    match mode {
-        ChannelMode::InterruptOnTerminalCount => false,
-        ChannelMode::HardwareRetriggerableOneShot => true,
-        ChannelMode::RateGenerator => true,
-        ChannelMode::SquareWaveGenerator => true,
-        ChannelMode::SoftwareTriggeredStrobe => false,
-        ChannelMode::HardwareTriggeredStrobe => true,
-    }
+    matches!(
+        mode,
+        ChannelMode::HardwareRetriggerableOneShot
+            | ChannelMode::RateGenerator
+            | ChannelMode::SquareWaveGenerator
+            | ChannelMode::HardwareTriggeredStrobe
+    )
 }
 
 fn stops_on_fall(mode: ChannelMode) -> bool
     ensures { result ≡ stops_on_fall mode }
 {
-    match mode {
-        ChannelMode::InterruptOnTerminalCount => false,
-        ChannelMode::HardwareRetriggerableOneShot => false,
-        ChannelMode::RateGenerator => true,
-        ChannelMode::SquareWaveGenerator => true,
-        ChannelMode::SoftwareTriggeredStrobe => true,
-        ChannelMode::HardwareTriggeredStrobe => false,
-    }
+    matches!(
+        mode,
+        ChannelMode::RateGenerator
+            | ChannelMode::SquareWaveGenerator
+            | ChannelMode::SoftwareTriggeredStrobe
+    )
 }
 
 fn high_on_fall(mode: ChannelMode) -> bool
     ensures { result ≡ high_on_fall mode }
 {
-    match mode {
-        ChannelMode::InterruptOnTerminalCount => false,
-        ChannelMode::HardwareRetriggerableOneShot => false,
-        ChannelMode::RateGenerator => true,
-        ChannelMode::SquareWaveGenerator => true,
-        ChannelMode::SoftwareTriggeredStrobe => false,
-        ChannelMode::HardwareTriggeredStrobe => false,
-    }
+    matches!(
+        mode,
+        ChannelMode::RateGenerator | ChannelMode::SquareWaveGenerator
+    )
 }
 
 // Whether the edge from the gate's level to the new one enters a state.
 fn enters(mode: ChannelMode, was: bool, level: bool) -> bool
     ensures { result ≡ enters mode was level }
 {
-    if was {
-        if level {
-            return false;
-        }
-        return stops_on_fall(mode);
+    match (was, level) {
+        (false, true) => loads_on_rise(mode),
+        (true, false) => stops_on_fall(mode),
+        _ => false,
     }
-    if level {
-        return loads_on_rise(mode);
-    }
-    false
 }
 
 // The state that a rise or a fall enters, where it enters one.
@@ -77,64 +65,32 @@ fn entered_at(level: bool) -> ChannelState
 fn raises(mode: ChannelMode, was: bool, level: bool) -> bool
     ensures { result ≡ raises mode was level }
 {
-    if was {
-        if level {
-            return false;
-        }
-        return high_on_fall(mode);
-    }
-    false
-}
-
-fn counter_after(c: Channel, level: bool) -> Counter
-    ensures { result ≡ (after_edge c level).counter }
-{
-    let w = c.control;
-    let mode = w.mode;
-    let p = c.pins;
-    let k = c.counter;
-    let state = k.channel_state;
-    if state.waits_for_reload() {
-        return k;
-    }
-    if enters(mode, p.gate, level) {
-        let channel_state = entered_at(level);
-        return Counter {
-            channel_state,
-            cycles_in_state: 0,
-            counting_element: k.counting_element,
-            ticked: k.ticked,
-        };
-    }
-    k
-}
-
-fn output_after(c: Channel, level: bool) -> bool
-    ensures { result ≡ (after_edge c level).pins.output }
-{
-    let w = c.control;
-    let mode = w.mode;
-    let p = c.pins;
-    let k = c.counter;
-    let state = k.channel_state;
-    if state.waits_for_reload() {
-        return p.output;
-    }
-    if raises(mode, p.gate, level) {
-        return true;
-    }
-    p.output
+    was && !level && high_on_fall(mode)
 }
 
 // What an edge can change is found first, and the record is put together once: docs/PERFORMANCE.md.
+#[tactic(auto, using(crate::proofs::Parts::gate_by_parts, crate::proofs::Parts::edge_counter, crate::proofs::Parts::edge_output))]
 pub fn set_gate(c: Channel, level: bool) -> Channel
     ensures { result ≡ set_gate c level }
 {
-    let counter = counter_after(c, level);
-    let output = output_after(c, level);
-    let mut next = c;
-    next.counter = counter;
-    next.pins.output = output;
-    next.pins.gate = level;
-    next
+    let mode = c.control.mode;
+    let acts = !c.counter.channel_state.waits_for_reload();
+    let counter = if acts && enters(mode, c.pins.gate, level) {
+        Counter {
+            channel_state: entered_at(level),
+            cycles_in_state: 0,
+            ..c.counter
+        }
+    } else {
+        c.counter
+    };
+    let rises = acts && raises(mode, c.pins.gate, level);
+    Channel {
+        counter,
+        pins: Pins {
+            gate: level,
+            output: rises || c.pins.output,
+        },
+        ..c
+    }
 }

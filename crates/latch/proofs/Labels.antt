@@ -4,6 +4,7 @@ use mathlib.Core.Bool.{Bool, true, false, cond, false≢true}
 use mathlib.Core.Path.{◌≡◌, refl, sym, ap, ◌∙◌}
 use native.Mathlib.Omega.{arith}
 use Prim.Native.Nat.{ℕ}
+use Rattle.std.specs.Prelude.{Option, Some, None}
 use Rattle.channel.specs.declared.Channel.{Channel}
 use Rattle.channel.specs.declared.Latch.{Latch}
 use Rattle.channel.specs.declared.RwMode.{RwMode}
@@ -13,15 +14,14 @@ use Rattle.channel.specs.declared.ReadState.TheVariants.{NoRead, ReadLsb}
 use Rattle.channel.proofs.Pick.{of-pick, pick_same}
 use Rattle.latch.specs.declared.reading.Half.{Half}
 use Rattle.latch.specs.declared.reading.Half.TheVariants as half
-use Rattle.latch.specs.declared.label.WhichHalf.TheVariants.{Neither}
 use Rattle.latch.specs.declared.label.Label.{Label}
 use Rattle.latch.specs.declared.reading.ByteRead.{ByteRead}
 use Rattle.latch.specs.Status.{no_status}
 use Rattle.latch.specs.Reading.{byte_at, after_read, next_half, count_read, status_read, read_byte}
-use Rattle.latch.specs.Label.{which_half, count_label, status_label, label_of, IsHalf, with_value}
+use Rattle.latch.specs.Label.{count_label, status_label, label_of, IsHalf, with_value}
 use Rattle.latch.proofs.Words.{count-read, every-read}
 
-half_in : (h : Half) (v : ℕ) → IsHalf (which_half h) (byte_at h v) v
+half_in : (h : Half) (v : ℕ) → IsHalf (Some h) (byte_at h v) v
 half_in half.Low v = refl
 half_in half.High v = refl
 
@@ -35,15 +35,14 @@ pub label-half : (c : Channel) (v : ℕ) → IsHalf (label_of c).half (read_byte
 unfolding label_of read_byte
 label-half c v = label-half-in c v (no_status c)
 
-low-or-high-in : (h : Half) → which_half h ≡ Neither → ⊥
-low-or-high-in half.Low e = let z : ◌≡◌ {A = ℕ} 0 1 = cc in omega arith
-low-or-high-in half.High e = let z : ◌≡◌ {A = ℕ} 0 1 = cc in omega arith
+low-or-high-in : (h : Half) → ◌≡◌ {A = Option Half} (Some h) None → ⊥
+low-or-high-in h e = let z : ◌≡◌ {A = ℕ} 0 1 = cc in omega arith
 
 pub count-label : (c : Channel) → no_status c ≡ true → label_of c ≡ count_label c
 unfolding label_of
 count-label c none = rw none refl
 
-pub low_or_high : (c : Channel) → no_status c ≡ true → (label_of c).half ≡ Neither → ⊥
+pub low_or_high : (c : Channel) → no_status c ≡ true → (label_of c).half ≡ None → ⊥
 low_or_high c none e = low-or-high-in (next_half c) (ap (λ (l : Label). l.half) (sym (count-label c none)) ∙ e)
 
 -- .. and where one is held the words are `none held`

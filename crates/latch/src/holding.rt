@@ -9,11 +9,7 @@ use channel::Channel;
 fn hold_count(c: Channel, asked: bool) -> Channel
     ensures { result ≡ count_held asked c }
 {
-    let l = c.latch;
-    if asked {
-        if l.count_is_latched {
-            return c;
-        }
+    if asked && !c.latch.count_is_latched {
         return latch_count(c);
     }
     c
@@ -22,23 +18,18 @@ fn hold_count(c: Channel, asked: bool) -> Channel
 fn hold_status(c: Channel, asked: bool) -> Channel
     ensures { result ≡ status_held asked c }
 {
-    let s = c.status;
-    if asked {
-        if s.status_latch == 0 {
-            let byte = status_byte(c);
-            let mut next = c;
-            next.status.status_latch = byte;
-            return next;
-        }
-        return c;
+    if asked && c.status.status_latch == 0 {
+        let mut next = c;
+        next.status.status_latch = status_byte(c);
+        return next;
     }
     c
 }
 
 // What is held already is not latched again.
+#[tactic(auto, unfolding(crate::specs::ReadBack::read_back))]
 pub fn read_back(c: Channel, counts: bool, status: bool) -> Channel
     ensures { result ≡ read_back counts status c }
 {
-    let counted = hold_count(c, counts);
-    hold_status(counted, status)
+    hold_status(hold_count(c, counts), status)
 }

@@ -8,7 +8,7 @@ mod reading;
 mod status;
 
 pub use holding::read_back;
-pub use label::{Label, WhichHalf, command_label, label_of};
+pub use label::{Label, command_label, label_of};
 pub use latching::latch_count;
 pub use reading::{ByteRead, Half, next_half, read_byte, starts_word};
 pub use status::status_byte;

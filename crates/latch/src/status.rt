@@ -3,6 +3,7 @@ ghost use Rattle.std.specs.Prelude.{◌≡◌};
 ghost use Rattle.latch.specs.Status.{access_number, status_byte};
 
 use channel::{Channel, RwMode};
+use numbers::flag_byte;
 
 // As in a control byte.
 fn access_number(rw_mode: RwMode) -> u8
@@ -16,18 +17,13 @@ fn access_number(rw_mode: RwMode) -> u8
 }
 
 // The status of this moment: output, null count, access, mode as stored, radix.
+#[tactic(auto, unfolding(crate::specs::Status::status_byte))]
 pub fn status_byte(c: Channel) -> u8
     ensures { result ≡ status_byte c }
 {
-    let p = c.pins;
-    let s = c.status;
-    let w = c.control;
-    let rw_mode = w.rw_mode;
-    let mode = w.mode;
-    let output = numbers::flag_byte(p.output);
-    let null = numbers::flag_byte(s.null_count);
-    let access = access_number(rw_mode);
-    let number = mode.number();
-    let bcd = numbers::flag_byte(w.bcd_mode);
-    output * 128 + null * 64 + access * 16 + number * 2 + bcd
+    flag_byte(c.pins.output) * 128
+        + flag_byte(c.status.null_count) * 64
+        + access_number(c.control.rw_mode) * 16
+        + c.control.mode.number() * 2
+        + flag_byte(c.control.bcd_mode)
 }

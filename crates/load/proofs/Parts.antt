@@ -27,6 +27,6 @@ cycle-in-parts WaitingForLoadCycle c e = simp e
 cycle-in-parts WaitingForLoadTrigger c e = refl
 cycle-in-parts (Counting f) c e = refl
 
-pub cycle-by-parts : (c : Channel) → load_cycle c ≡ cycled c.counter.channel_state c
+pub cycle_by_parts : (c : Channel) → load_cycle c ≡ cycled c.counter.channel_state c
 unfolding load_cycle
-cycle-by-parts c = cycle-in-parts c.counter.channel_state c refl
+cycle_by_parts c = cycle-in-parts c.counter.channel_state c refl

@@ -1,4 +1,4 @@
--- Not for readers: a load cycle by parts, as the code has it. It says nothing that `load_cycle` does not say (`cycle-by-parts`).
+-- Not for readers: a load cycle by parts, as the code has it. It says nothing that `load_cycle` does not say (`cycle_by_parts`).
 use Rattle.std.specs.Prelude.{ℕ}
 use Rattle.channel.specs.declared.Counter.{Counter}
 use Rattle.channel.specs.declared.ChannelState.{ChannelState}

@@ -1,6 +1,6 @@
 // A complete load: what was written becomes the reload value, and the channel enters the state that the load asks for, if any.
 ghost use Rattle.std.specs.Prelude.{◌≡◌};
-ghost use Rattle.load.specs.Finalize.{waiting_state, first_state, loads_again, armed_by, completed, complete_load, finalize_load};
+ghost use Rattle.load.specs.Finalize.{waiting_state, first_state, loads_again, completed, complete_load, finalize_load};
 
 use channel::{Channel, ChannelMode, ChannelState, Load, LoadType};
 
@@ -29,73 +29,47 @@ fn first_state(reload_on_trigger: bool, defer_reload: bool) -> ChannelState
 fn loads_again(mode: ChannelMode) -> bool
     ensures { result ≡ loads_again mode }
 {
-    match mode {
-        ChannelMode::InterruptOnTerminalCount => true,
-        ChannelMode::HardwareRetriggerableOneShot => false,
-        ChannelMode::RateGenerator => false,
-        ChannelMode::SquareWaveGenerator => false,
-        ChannelMode::SoftwareTriggeredStrobe => true,
-        ChannelMode::HardwareTriggeredStrobe => false,
-    }
+    matches!(
+        mode,
+        ChannelMode::InterruptOnTerminalCount | ChannelMode::SoftwareTriggeredStrobe
+    )
 }
 
-fn armed_by(load_type: LoadType, armed: bool) -> bool
-    ensures { result ≡ armed_by load_type armed }
-{
-    match load_type {
-        LoadType::InitialLoad => true,
-        LoadType::SubsequentLoad => armed,
-    }
-}
-
-// The load group after a complete load: the next one is not the first.
+// The load group after a complete load. A first one arms the channel, and the next is not the first.
 fn complete(l: Load) -> Load
     ensures { result ≡ completed l }
 {
-    let load_state = l.load_state;
-    let load_type = l.load_type;
-    let armed = armed_by(load_type, l.armed);
     Load {
-        count_register: l.count_register,
         reload_value: l.count_register,
-        load_state,
         load_type: LoadType::SubsequentLoad,
-        armed,
+        armed: l.load_type == LoadType::InitialLoad || l.armed,
+        ..l
     }
 }
 
-fn complete_load(c: Channel) -> Channel
+#[tactic(auto, unfolding(crate::specs::Finalize::complete_load))]
+fn complete_load(mut c: Channel) -> Channel
     ensures { result ≡ complete_load c }
 {
-    let l = c.load;
-    let load = complete(l);
-    let mut next = c;
-    next.load = load;
-    next.status.null_count = true;
-    next.dirty = true;
-    next
+    c.load = complete(c.load);
+    c.status.null_count = true;
+    c.dirty = true;
+    c
 }
 
+#[tactic(auto, unfolding(crate::specs::Finalize::finalize_load))]
 pub fn finalize_load(c: Channel, defer_reload: bool) -> Channel
     ensures { result ≡ finalize_load c defer_reload }
 {
-    let l = c.load;
-    let load_type = l.load_type;
     let loaded = complete_load(c);
-    let w = loaded.control;
-    let mode = w.mode;
-    let rule = loaded.reloading;
-    match load_type {
+    match c.load.load_type {
         LoadType::InitialLoad => {
-            let state = first_state(rule.reload_on_trigger, defer_reload);
+            let state = first_state(loaded.reloading.reload_on_trigger, defer_reload);
             loaded.change_channel_state(state)
         }
-        LoadType::SubsequentLoad => {
-            if loads_again(mode) {
-                let state = waiting_state(defer_reload);
-                return loaded.change_channel_state(state);
-            }
-            loaded
+        LoadType::SubsequentLoad if loads_again(loaded.control.mode) => {
+            loaded.change_channel_state(waiting_state(defer_reload))
         }
+        LoadType::SubsequentLoad => loaded,
     }
 }

@@ -1,8 +1,7 @@
--- What `skipped` answers is fixed by the record that it leads to. Assumes nothing.
+-- What the four fields are is fixed by the record that has them. Assumes nothing.
 use mathlib.Core.Path.{◌≡◌}
 use Rattle.channel.specs.declared.Channel.{Channel}
-use Rattle.quiet.specs.declared.Moved.{Moved}
-use Rattle.quiet.specs.Inner.{with_skipped}
+use Rattle.quiet.specs.Inner.{Moved, with_skipped}
 
 pub moved_apart : (c : Channel) (m n : Moved) → with_skipped c m ≡ with_skipped c n → m ≡ n
 moved_apart c m n e =

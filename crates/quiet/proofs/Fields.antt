@@ -22,8 +22,7 @@ use Rattle.count.specs.Inner.{followed_by, ticked_by}
 use Rattle.count.proofs.Many.{counted-at-once}
 use Rattle.tick.specs.Taken.{square_takes, takes}
 use Rattle.tick.specs.Tick.{older, aged_by}
-use Rattle.quiet.specs.declared.Moved.{Moved}
-use Rattle.quiet.specs.Inner.{standing, with_skipped}
+use Rattle.quiet.specs.Inner.{Moved, standing, with_skipped}
 
 square-few : (even high : Bool) → (1 ≤ cond even 2 (cond high 1 3)) × (cond even 2 (cond high 1 3) ≤ 3)
 square-few true high = (omega arith, omega arith)
@@ -82,8 +81,22 @@ fields_after ticks c =
       output_latch = (followed_by ticks c.latch (element_after ticks c)).output_latch;
     }
 
-pub counted-in-place : (ticks : ℕ) (c : Channel) → with_skipped c (fields_after ticks c) ≡ aged_by ticks (times (ticks * takes c) count c)
+pub counted_in_place : (ticks : ℕ) (c : Channel) → with_skipped c (fields_after ticks c) ≡ aged_by ticks (times (ticks * takes c) count c)
 unfolding aged_by
-counted-in-place ticks c =
+counted_in_place ticks c =
     rw (counted-at-once (ticks * takes c) c)
     (simp (none_made ticks (takes c) (takes-few c).0, follows-in-place ticks c.latch (element_after ticks c)))
+
+-- the same where the cycles are counted last
+pub counted_then_aged : (ticks : ℕ) (c : Channel)
+    → aged_by ticks
+    (with_skipped c
+    (record {
+      cycles_in_state = c.counter.cycles_in_state;
+      counting_element = element_after ticks c;
+      ticked = ticked_by ticks c.counter.ticked;
+      output_latch = (followed_by ticks c.latch (element_after ticks c)).output_latch;
+    }))
+    ≡ aged_by ticks (times (ticks * takes c) count c)
+unfolding aged_by
+counted_then_aged ticks c = counted_in_place ticks c

@@ -16,7 +16,6 @@ use Rattle.tick.specs.Taken.{takes}
 use Rattle.tick.specs.Level.{rests_at}
 use Rattle.tick.specs.Tick.{aged_by, never_loaded}
 use Rattle.channel.specs.Record.{with_counter, with_latch}
-use Rattle.quiet.specs.declared.Moved.{Moved}
 
 -- the counts to zero: the element, in BCD its weight, "and for 0 the whole round"
 abbrev pub counts_to_zero : Bool → ℕ → ℕ
@@ -88,7 +87,14 @@ skip_by Count ticks c = aged_by ticks (times (ticks * takes c) count c)
 unfoldable pub skip : ℕ → Channel → Channel
 skip ticks c = skip_by (due c) ticks c
 
--- the record with the four fields that such ticks can move
+-- the four fields that such ticks can move
+pub record Moved : Type 0 where
+  pub cycles_in_state : ℕ
+  pub counting_element : ℕ
+  pub ticked : Bool
+  pub output_latch : ℕ
+
+-- the record with them
 abbrev pub with_skipped : Channel → Moved → Channel
 with_skipped c s =
     with_latch

@@ -1,108 +1,80 @@
 // How many next ticks are all alike, and what that many come to at once: docs/TICK.md, "Many ticks at once".
 #![tactic(auto)]
 
-ghost use Rattle.std.specs.Prelude.{◌-◌, ◌*◌, ◌≤◌, ◌≡◌};
+ghost use Rattle.std.specs.Prelude.{◌*◌, ◌≤◌, ◌≡◌};
 ghost use Rattle.numbers.specs.Times.{times};
 ghost use Rattle.count.specs.Count.{count};
 ghost use Rattle.count.specs.Step.{step_in};
 ghost use Rattle.tick.specs.Taken.{takes};
 ghost use Rattle.tick.specs.Level.{rests_at};
 ghost use Rattle.tick.specs.Tick.{aged_by};
-ghost use Rattle.quiet.specs.Inner.{to_zero, met_already, until_high, until_low, until_half, until_strobe, quiet_for, quiet_counting, quiet_if, quiet, skip, standing, with_skipped};
+ghost use Rattle.quiet.specs.Inner.{to_zero, met_already, until_high, until_low, until_half, until_strobe, quiet_for, quiet_counting, quiet_if, quiet, skip};
 
 use channel::{Channel, ChannelMode};
 use count::{followed_by, steps_in, ticked_by};
 use numbers::{radix_counts, weight};
 use tick::due::{Kind, due};
-use tick::{never_loaded, older, pulses, takes};
+use tick::{never_loaded, pulses, takes};
 
-fn wide(number: u16) -> u32
-    ensures { result ≡ number }
-{
-    number as u32
-}
+// As many ticks as one call may ask for.
+const NO_END: u32 = 65536;
 
-// What is left of a number, or nothing.
-fn less(number: u32, by: u32) -> u32
-    ensures { result ≡ number - by }
-{
-    if number < by {
-        return 0;
-    }
-    number - by
-}
-
+#[tactic(auto, unfolding(crate::specs::Inner::to_zero))]
 fn to_zero(c: Channel) -> u32
     ensures { result ≡ to_zero c }
 {
-    let w = c.control;
-    let k = c.counter;
-    let element = k.counting_element;
+    let element = c.counter.counting_element;
     if element == 0 {
-        return radix_counts(w.bcd_mode);
+        radix_counts(c.control.bcd_mode)
+    } else if c.control.bcd_mode {
+        u32::from(weight(element))
+    } else {
+        u32::from(element)
     }
-    if w.bcd_mode {
-        return wide(weight(element));
-    }
-    wide(element)
 }
 
 fn rests_at(mode: ChannelMode, level: bool) -> bool
     ensures { result ≡ rests_at mode level }
 {
-    if pulses(mode) {
-        return level;
-    }
-    true
+    !pulses(mode) || level
 }
 
 // A count of 1 that was met before: the next tick leaves the record as it is.
 fn met_already(c: Channel) -> bool
     ensures { result ≡ met_already c }
 {
-    let p = c.pins;
-    let k = c.counter;
-    let state = k.channel_state;
-    if never_loaded(c) {
-        if state.waits_for_cycle() {
-            if p.output {
-                return k.cycles_in_state == 0;
-            }
-            return false;
-        }
-        return false;
-    }
-    false
+    never_loaded(c)
+        && c.counter.channel_state.waits_for_cycle()
+        && c.pins.output
+        && c.counter.cycles_in_state == 0
 }
 
 fn until_high(level: bool, zero_in: u32) -> u32
     ensures { result ≡ until_high level zero_in }
 {
     if level {
-        return 65536;
+        NO_END
+    } else {
+        zero_in.saturating_sub(1)
     }
-    less(zero_in, 1)
 }
 
 fn until_strobe(level: bool, armed: bool, zero_in: u32) -> u32
     ensures { result ≡ until_strobe level armed zero_in }
 {
-    if level {
-        if armed {
-            return less(zero_in, 1);
-        }
-        return 65536;
+    if !level {
+        0
+    } else if armed {
+        zero_in.saturating_sub(1)
+    } else {
+        NO_END
     }
-    0
 }
 
 fn until_low(level: bool, zero_in: u32) -> u32
     ensures { result ≡ until_low level zero_in }
 {
-    if level {
-        return less(zero_in, 2);
-    }
-    0
+    if level { zero_in.saturating_sub(2) } else { 0 }
 }
 
 // By twos, so from an even element only.
@@ -110,85 +82,57 @@ fn until_half(element: u16, zero_in: u32) -> u32
     ensures { result ≡ until_half element zero_in }
 {
     if element % 2 == 0 {
-        return less(zero_in / 2, 1);
+        (zero_in / 2).saturating_sub(1)
+    } else {
+        0
     }
-    0
 }
 
 fn quiet_for(mode: ChannelMode, level: bool, armed: bool, element: u16, zero_in: u32) -> u32
     ensures { result ≡ quiet_for mode level armed element zero_in }
 {
     match mode {
-        ChannelMode::InterruptOnTerminalCount => until_high(level, zero_in),
-        ChannelMode::HardwareRetriggerableOneShot => until_high(level, zero_in),
+        ChannelMode::InterruptOnTerminalCount | ChannelMode::HardwareRetriggerableOneShot => {
+            until_high(level, zero_in)
+        }
         ChannelMode::RateGenerator => until_low(level, zero_in),
         ChannelMode::SquareWaveGenerator => until_half(element, zero_in),
-        ChannelMode::SoftwareTriggeredStrobe => until_strobe(level, armed, zero_in),
-        ChannelMode::HardwareTriggeredStrobe => until_strobe(level, armed, zero_in),
+        ChannelMode::SoftwareTriggeredStrobe | ChannelMode::HardwareTriggeredStrobe => {
+            until_strobe(level, armed, zero_in)
+        }
     }
 }
 
 fn quiet_counting(c: Channel) -> u32
     ensures { result ≡ quiet_counting c }
 {
-    let w = c.control;
-    let mode = w.mode;
-    let p = c.pins;
-    let l = c.load;
-    let k = c.counter;
-    let state = k.channel_state;
-    if state.is_counting() {
-        let zero_in = to_zero(c);
-        return quiet_for(mode, p.output, l.armed, k.counting_element, zero_in);
+    if !c.counter.channel_state.is_counting() {
+        return 0;
     }
-    0
+    quiet_for(
+        c.control.mode,
+        c.pins.output,
+        c.load.armed,
+        c.counter.counting_element,
+        to_zero(c),
+    )
 }
 
 fn quiet_if(alike: bool) -> u32
     ensures { result ≡ quiet_if alike }
 {
-    if alike {
-        return 65536;
-    }
-    0
+    if alike { NO_END } else { 0 }
 }
 
+#[tactic(auto, unfolding(crate::specs::Inner::quiet))]
 pub fn quiet(c: Channel) -> u32
     ensures { result ≡ quiet c }
 {
-    let w = c.control;
-    let mode = w.mode;
-    let p = c.pins;
-    let kind = due(c);
-    match kind {
-        Kind::Idle => quiet_if(rests_at(mode, p.output)),
-        Kind::Deferred => 0,
+    match due(c) {
+        Kind::Idle => quiet_if(rests_at(c.control.mode, c.pins.output)),
         Kind::Load => quiet_if(met_already(c)),
-        Kind::Reload => 0,
         Kind::Count => quiet_counting(c),
-    }
-}
-
-// The four fields that ticks which are all alike can move. An owner of the record puts them where they stand.
-#[derive(Clone, Copy)]
-pub struct Moved {
-    pub cycles_in_state: u32,
-    pub counting_element: u16,
-    pub ticked: bool,
-    pub output_latch: u16,
-}
-
-// The fields where nothing is counted.
-fn standing(c: Channel, cycles_in_state: u32) -> Moved
-    ensures { result ≡ standing c cycles_in_state }
-{
-    let k = c.counter;
-    let l = c.latch;
-    Moved {
-        cycles_in_state,
-        counting_element: k.counting_element,
-        ticked: k.ticked,
-        output_latch: l.output_latch,
+        Kind::Deferred | Kind::Reload => 0,
     }
 }
 
@@ -209,36 +153,37 @@ fn steps_each(bcd: bool, element: u16, ticks: u32, each: u32) -> u16
     steps_in(bcd, twice, ticks)
 }
 
-// A tick takes at least one count, so none are made only where there are no ticks.
-fn counted(c: Channel, ticks: u32) -> Moved
-    ensures { with_skipped c result ≡ aged_by ticks (times (ticks * takes c) count c) }
+#[tactic(auto, unfolding(tick::specs::Tick::aged_by))]
+fn age(c: &mut Channel, ticks: u32)
+    ensures { c.new ≡ aged_by ticks c.old }
 {
-    let w = c.control;
-    let k = c.counter;
-    let l = c.latch;
-    let each = takes(c);
-    let element = steps_each(w.bcd_mode, k.counting_element, ticks, each);
-    let latch = followed_by(ticks, l, element);
-    let ticked = ticked_by(ticks, k.ticked);
-    Moved {
-        cycles_in_state: older(ticks, k.cycles_in_state),
-        counting_element: element,
-        ticked,
-        output_latch: latch.output_latch,
-    }
+    c.counter.cycles_in_state = c.counter.cycles_in_state.saturating_add(ticks);
 }
 
-// What that many ticks come to, where they are all alike.
-pub fn skipped(c: Channel, ticks: u32) -> Moved
-    ensures { with_skipped c result ≡ skip ticks c }
+// A tick takes at least one count, so none are made only where there are no ticks.
+fn count_on(c: &mut Channel, ticks: u32)
+    ensures { c.new ≡ aged_by ticks (times (ticks * takes c.old) count c.old) }
 {
-    let k = c.counter;
-    let kind = due(c);
-    match kind {
-        Kind::Idle => standing(c, older(ticks, k.cycles_in_state)),
-        Kind::Deferred => standing(c, k.cycles_in_state),
-        Kind::Load => standing(c, k.cycles_in_state),
-        Kind::Reload => standing(c, k.cycles_in_state),
-        Kind::Count => counted(c, ticks),
+    let element = steps_each(
+        c.control.bcd_mode,
+        c.counter.counting_element,
+        ticks,
+        takes(*c),
+    );
+    c.latch.output_latch = followed_by(ticks, c.latch, element).output_latch;
+    c.counter.counting_element = element;
+    c.counter.ticked = ticked_by(ticks, c.counter.ticked);
+    age(c, ticks);
+}
+
+// What that many ticks come to, where they are all alike. They can move four fields, which are written where they stand.
+#[tactic(auto, unfolding(crate::specs::Inner::skip))]
+pub fn skip(c: &mut Channel, ticks: u32)
+    ensures { c.new ≡ skip ticks c.old }
+{
+    match due(*c) {
+        Kind::Idle => age(c, ticks),
+        Kind::Count => count_on(c, ticks),
+        Kind::Deferred | Kind::Load | Kind::Reload => {}
     }
 }

@@ -4,7 +4,7 @@ ghost use Rattle.tick.specs.Due.{triggered, runs, reloads_from, counting_due, fl
 
 use channel::{Channel, ChannelMode, ChannelState, ReloadFlag};
 
-#[derive(Clone, Copy)]
+#[derive(Clone, Copy, Debug, PartialEq, Eq)]
 pub enum Kind {
     // Nothing but the passing of time.
     Idle,
@@ -15,58 +15,38 @@ pub enum Kind {
     Count,
 }
 
-// The modes that a trigger starts: the gate's level is nothing to them.
+// The modes that a trigger starts: the gate's level is nothing to them. Mode 4 is none: its gate holds the count.
 fn triggered(mode: ChannelMode) -> bool
     ensures { result ≡ triggered mode }
 {
-    match mode {
-        ChannelMode::InterruptOnTerminalCount => false,
-        ChannelMode::HardwareRetriggerableOneShot => true,
-        ChannelMode::RateGenerator => false,
-        ChannelMode::SquareWaveGenerator => false,
-        ChannelMode::SoftwareTriggeredStrobe => false, // its gate holds the count
-        ChannelMode::HardwareTriggeredStrobe => true,
-    }
+    matches!(
+        mode,
+        ChannelMode::HardwareRetriggerableOneShot | ChannelMode::HardwareTriggeredStrobe
+    )
 }
 
 fn runs(c: Channel) -> bool
     ensures { result ≡ runs c }
 {
-    let w = c.control;
-    let mode = w.mode;
-    let p = c.pins;
-    if triggered(mode) {
-        return true;
-    }
-    p.gate
+    triggered(c.control.mode) || c.pins.gate
 }
 
 fn reloads_from(mode: ChannelMode, element: u16) -> bool
     ensures { result ≡ reloads_from mode element }
 {
-    match mode {
-        ChannelMode::InterruptOnTerminalCount => false,
-        ChannelMode::HardwareRetriggerableOneShot => false,
-        ChannelMode::RateGenerator => element == 1,
-        ChannelMode::SquareWaveGenerator => false,
-        ChannelMode::SoftwareTriggeredStrobe => false,
-        ChannelMode::HardwareTriggeredStrobe => false,
-    }
+    mode == ChannelMode::RateGenerator && element == 1
 }
 
 fn counting_due(c: Channel) -> Kind
     ensures { result ≡ counting_due c }
 {
-    let w = c.control;
-    let mode = w.mode;
-    let k = c.counter;
-    if runs(c) {
-        if reloads_from(mode, k.counting_element) {
-            return Kind::Reload;
-        }
-        return Kind::Count;
+    if !runs(c) {
+        Kind::Idle
+    } else if reloads_from(c.control.mode, c.counter.counting_element) {
+        Kind::Reload
+    } else {
+        Kind::Count
     }
-    Kind::Idle
 }
 
 fn flag_due(c: Channel, flag: ReloadFlag) -> Kind
@@ -74,33 +54,22 @@ fn flag_due(c: Channel, flag: ReloadFlag) -> Kind
 {
     match flag {
         ReloadFlag::Normal => counting_due(c),
-        ReloadFlag::ReloadNextCycle => {
-            if runs(c) {
-                return Kind::Reload;
-            }
-            Kind::Idle
-        }
+        ReloadFlag::ReloadNextCycle if runs(c) => Kind::Reload,
+        ReloadFlag::ReloadNextCycle => Kind::Idle,
     }
 }
 
+#[tactic(auto, unfolding(crate::specs::Due::due))]
 pub fn due(c: Channel) -> Kind
     ensures { result ≡ due c }
 {
-    let w = c.control;
-    let mode = w.mode;
-    let k = c.counter;
-    let state = k.channel_state;
-    match state {
+    match c.counter.channel_state {
         ChannelState::WaitingForReload => Kind::Idle,
         ChannelState::WaitingForGate => counting_due(c),
         ChannelState::DeferLoadCycle => Kind::Deferred,
         ChannelState::WaitingForLoadCycle => Kind::Load,
-        ChannelState::WaitingForLoadTrigger => {
-            if triggered(mode) {
-                return Kind::Idle;
-            }
-            Kind::Load
-        }
+        ChannelState::WaitingForLoadTrigger if triggered(c.control.mode) => Kind::Idle,
+        ChannelState::WaitingForLoadTrigger => Kind::Load,
         ChannelState::Counting(flag) => flag_due(c, flag),
     }
 }

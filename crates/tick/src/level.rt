@@ -10,28 +10,20 @@ fn square_takes(output: bool, element: u16) -> u32
     ensures { result ≡ square_takes output element }
 {
     if element % 2 == 0 {
-        return 2;
+        2
+    } else if output {
+        1
+    } else {
+        3
     }
-    if output {
-        return 1;
-    }
-    3
 }
 
 pub fn takes(c: Channel) -> u32
     ensures { result ≡ takes c }
 {
-    let w = c.control;
-    let mode = w.mode;
-    let p = c.pins;
-    let k = c.counter;
-    match mode {
-        ChannelMode::InterruptOnTerminalCount => 1,
-        ChannelMode::HardwareRetriggerableOneShot => 1,
-        ChannelMode::RateGenerator => 1,
-        ChannelMode::SquareWaveGenerator => square_takes(p.output, k.counting_element),
-        ChannelMode::SoftwareTriggeredStrobe => 1,
-        ChannelMode::HardwareTriggeredStrobe => 1,
+    match c.control.mode {
+        ChannelMode::SquareWaveGenerator => square_takes(c.pins.output, c.counter.counting_element),
+        _ => 1,
     }
 }
 
@@ -39,48 +31,36 @@ pub fn takes(c: Channel) -> u32
 pub fn pulses(mode: ChannelMode) -> bool
     ensures { result ≡ pulses mode }
 {
-    match mode {
-        ChannelMode::InterruptOnTerminalCount => false,
-        ChannelMode::HardwareRetriggerableOneShot => false,
-        ChannelMode::RateGenerator => true,
-        ChannelMode::SquareWaveGenerator => false,
-        ChannelMode::SoftwareTriggeredStrobe => true,
-        ChannelMode::HardwareTriggeredStrobe => true,
-    }
+    matches!(
+        mode,
+        ChannelMode::RateGenerator
+            | ChannelMode::SoftwareTriggeredStrobe
+            | ChannelMode::HardwareTriggeredStrobe
+    )
 }
 
 pub fn rest_level(mode: ChannelMode, level: bool) -> bool
     ensures { result ≡ rest_level mode level }
 {
-    if pulses(mode) {
-        return true;
-    }
-    level
+    pulses(mode) || level
 }
 
 pub fn load_level(mode: ChannelMode) -> bool
     ensures { result ≡ load_level mode }
 {
-    match mode {
-        ChannelMode::InterruptOnTerminalCount => false,
-        ChannelMode::HardwareRetriggerableOneShot => false,
-        ChannelMode::RateGenerator => true,
-        ChannelMode::SquareWaveGenerator => true,
-        ChannelMode::SoftwareTriggeredStrobe => true,
-        ChannelMode::HardwareTriggeredStrobe => true,
-    }
+    !matches!(
+        mode,
+        ChannelMode::InterruptOnTerminalCount | ChannelMode::HardwareRetriggerableOneShot
+    )
 }
 
+// As a load leaves it, but for mode 3: the other level.
 pub fn reload_level(mode: ChannelMode, level: bool) -> bool
     ensures { result ≡ reload_level mode level }
 {
     match mode {
-        ChannelMode::InterruptOnTerminalCount => false,
-        ChannelMode::HardwareRetriggerableOneShot => false,
-        ChannelMode::RateGenerator => true,
         ChannelMode::SquareWaveGenerator => !level,
-        ChannelMode::SoftwareTriggeredStrobe => true,
-        ChannelMode::HardwareTriggeredStrobe => true,
+        _ => load_level(mode),
     }
 }
 
@@ -89,25 +69,24 @@ pub fn strobes(mode: ChannelMode, armed: bool, element: u16) -> bool
     ensures { result ≡ strobes mode armed element }
 {
     match mode {
-        ChannelMode::InterruptOnTerminalCount => false,
-        ChannelMode::HardwareRetriggerableOneShot => false,
-        ChannelMode::RateGenerator => false,
-        ChannelMode::SquareWaveGenerator => false,
-        ChannelMode::SoftwareTriggeredStrobe => armed && element == 0,
-        ChannelMode::HardwareTriggeredStrobe => armed && element == 0,
+        ChannelMode::SoftwareTriggeredStrobe | ChannelMode::HardwareTriggeredStrobe => {
+            armed && element == 0
+        }
+        _ => false,
     }
 }
 
 pub fn count_level(mode: ChannelMode, level: bool, armed: bool, element: u16) -> bool
     ensures { result ≡ count_level mode level armed element }
 {
-    let strobe = strobes(mode, armed, element);
     match mode {
-        ChannelMode::InterruptOnTerminalCount => level || element == 0,
-        ChannelMode::HardwareRetriggerableOneShot => level || element == 0,
+        ChannelMode::InterruptOnTerminalCount | ChannelMode::HardwareRetriggerableOneShot => {
+            level || element == 0
+        }
         ChannelMode::RateGenerator => element != 1,
         ChannelMode::SquareWaveGenerator => level,
-        ChannelMode::SoftwareTriggeredStrobe => !strobe,
-        ChannelMode::HardwareTriggeredStrobe => !strobe,
+        ChannelMode::SoftwareTriggeredStrobe | ChannelMode::HardwareTriggeredStrobe => {
+            !strobes(mode, armed, element)
+        }
     }
 }

@@ -9,39 +9,33 @@ use channel::{Channel, ChannelState, ReloadFlag};
 pub fn rested(c: Channel) -> Channel
     ensures { result ≡ rested c }
 {
-    let w = c.control;
-    let mode = w.mode;
-    let p = c.pins;
-    let level = rest_level(mode, p.output);
-    c.change_output_state(level)
+    c.change_output_state(rest_level(c.control.mode, c.pins.output))
 }
 
+#[tactic(auto, unfolding(crate::specs::Tick::deferred))]
 pub fn deferred(c: Channel) -> Channel
     ensures { result ≡ deferred c }
 {
-    let waiting = c.change_channel_state(ChannelState::WaitingForLoadCycle);
-    rested(waiting)
+    rested(c.change_channel_state(ChannelState::WaitingForLoadCycle))
 }
 
 // A count of 1 in mode 2 or 3, as it was written.
 pub fn never_loaded(c: Channel) -> bool
     ensures { result ≡ never_loaded c }
 {
-    let l = c.load;
-    if c.does_channel_retrigger() {
-        return l.reload_value == 1;
-    }
-    false
+    c.does_channel_retrigger() && c.load.reload_value == 1
 }
 
+#[tactic(auto, unfolding(crate::specs::Tick::sent_back))]
 fn sent_back(c: Channel) -> Channel
     ensures { result ≡ sent_back c }
 {
-    let waiting = c.change_channel_state(ChannelState::WaitingForLoadCycle);
-    waiting.change_output_state(true)
+    c.change_channel_state(ChannelState::WaitingForLoadCycle)
+        .change_output_state(true)
 }
 
 // Whether the next zero strobes.
+#[tactic(auto, unfolding(crate::specs::Tick::with_armed))]
 pub fn with_armed(c: Channel, armed: bool) -> Channel
     ensures { result ≡ with_armed c armed }
 {
@@ -50,18 +44,20 @@ pub fn with_armed(c: Channel, armed: bool) -> Channel
     next
 }
 
+#[tactic(auto, unfolding(crate::specs::Tick::loaded))]
 fn loaded(c: Channel, level: bool) -> Channel
     ensures { result ≡ loaded level c }
 {
-    let value = load::load_value(c);
-    let put = c.put_element(value);
-    let counting = put.change_channel_state(ChannelState::Counting(ReloadFlag::Normal));
-    let whole = counting.mark_null_count(false);
-    let out = whole.change_output_state(level);
+    let out = c
+        .put_element(load::load_value(c))
+        .change_channel_state(ChannelState::Counting(ReloadFlag::Normal))
+        .mark_null_count(false)
+        .change_output_state(level);
     with_armed(out, true)
 }
 
 // A load that leaves the output at a level, unless the count may not be loaded.
+#[tactic(auto, unfolding(crate::specs::Tick::load_at))]
 pub fn load_at(c: Channel, level: bool) -> Channel
     ensures { result ≡ load_at level c }
 {
