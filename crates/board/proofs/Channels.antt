@@ -2,11 +2,11 @@
 -- nothing; and what a call with refusal 2 comes to. Assumes nothing.
 use Prim.Native.Nat.{ℕ, ◌<◌, ◌≤◌}
 use mathlib.Core.Bool.{false}
-use mathlib.Core.List.{List}
-use mathlib.Core.Path.{◌≡◌, sym, ap, ◌∙◌}
+use mathlib.Core.List.{List, [], ◌∷◌}
+use mathlib.Core.Path.{◌≡◌, refl, sym, ap, ◌∙◌}
 use native.Mathlib.Omega.{arith}
 use lib.Dec.{ltb}
-use lib.ListN.{length}
+use lib.ListN.{length, get_or}
 use lib.Seq.{get_or-set_same, get_or-set_other, set-set, set-get_or}
 use borrow.Author.Tests.{ltb-false, le-ltb}
 use Rattle.channel.specs.declared.Channel.{Channel}
@@ -15,6 +15,14 @@ use Rattle.channel.proofs.Pick.{pick-knowing}
 use Rattle.board.specs.declared.Board.{Board}
 use Rattle.board.specs.Board.{channel_at, with_channels, with_channel}
 use Rattle.board.specs.Outcome.{Outcome, refuse, on_channel}
+
+-- a board's list is its three channels
+pub three-are : (xs : List Channel) → length xs ≡ 3 → xs ≡ get_or xs 0 blank ∷ get_or xs 1 blank ∷ get_or xs 2 blank ∷ []
+three-are [] three = absurd (omega arith)
+three-are (x ∷ []) three = absurd (omega arith)
+three-are (x ∷ y ∷ []) three = absurd (omega arith)
+three-are (x ∷ y ∷ z ∷ []) three = refl
+three-are (x ∷ y ∷ z ∷ w ∷ xs) three = absurd (omega arith)
 
 pub put-found : (b : Board) → length b.channels ≡ 3 → (n : ℕ) → n < 3 → (c : Channel) → channel_at (with_channel b n c) n ≡ c
 put-found b three n on c = get_or-set_same b.channels n c blank (rw three on)

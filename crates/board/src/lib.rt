@@ -13,7 +13,7 @@ use latch::Label;
 use refusal::Refusal;
 use time::{SystemTicks, TimerTicks};
 
-#[derive(Clone, Copy)]
+#[derive(Clone, Copy, Debug, PartialEq, Eq)]
 pub struct Board {
     // A channel's place here is its number.
     pub channels: [Channel; 3],
@@ -31,23 +31,30 @@ pub struct Board {
 }
 
 // What a port read says: the byte, and of the byte which half it is and whether it was held.
-#[derive(Clone, Copy)]
+#[derive(Clone, Copy, Debug, PartialEq, Eq)]
 pub struct PortRead {
     pub byte: u8,
     pub label: Label,
 }
 
 // What working ticks off comes to: how many were made, and the new place in the event bytes.
-#[derive(Clone, Copy)]
+#[derive(Clone, Copy, Debug, PartialEq, Eq)]
 pub struct Worked {
     pub made: TimerTicks,
     pub place: usize,
 }
 
-// What a call answers: a refusal, or its one other case.
-#[derive(Clone, Copy)]
+// What is asked by `is_dirty`.
+#[derive(Clone, Copy, Debug, PartialEq, Eq)]
+pub struct DirtyMarks {
+    pub dirty: bool,
+    pub counting: bool,
+    pub ticked: bool,
+}
+
+// What an accepted call answers: each call has its one case.
+#[derive(Clone, Copy, Debug, PartialEq, Eq)]
 pub enum Answer {
-    Refused(Refusal),
     // Counts, load cycle, reset, making a board.
     Done,
     // Port write and gate: the new place in the event bytes.
@@ -57,14 +64,14 @@ pub enum Answer {
     OutputState(bool),
     Count(ChannelCount),
     Retriggers(bool),
-    // Dirty, counting, ticked.
-    Dirty(bool, bool, bool),
+    Dirty(DirtyMarks),
     Worked(Worked),
 }
 
-#[derive(Clone, Copy)]
+// An answer, or why the call is refused, with the board beside it.
+#[derive(Clone, Copy, Debug, PartialEq, Eq)]
 pub struct Answered {
-    pub answer: Answer,
+    pub answer: Result<Answer, Refusal>,
     pub board: Board,
 }
 
@@ -74,7 +81,7 @@ impl Board {
         ensures { result ≡ refused_by refusal self }
     {
         Answered {
-            answer: Answer::Refused(refusal),
+            answer: Err(refusal),
             board: self,
         }
     }

@@ -9,13 +9,12 @@ use refusal::Refusal;
 use time::{SystemTicks, TimerTicks};
 
 impl Board {
+    #[tactic(auto, unfolding(crate::specs::Making::fresh))]
     fn fresh(model: PitType, divisor: u32) -> Board
         ensures { result ≡ fresh model divisor }
     {
-        let c = Channel::fresh();
-        let channels = [c, c, c];
         Board {
-            channels,
+            channels: [Channel::fresh(); 3],
             model,
             divisor,
             remainder: SystemTicks(0),
@@ -26,6 +25,7 @@ impl Board {
     }
 
     // Refusal 3. The board beside it is the fresh one with divisor 0, whose time calls refuse with 3 too.
+    #[tactic(auto, unfolding(crate::specs::Making::new))]
     pub fn new(model: PitType, divisor: u32) -> Answered
         ensures { outcome result [] ≡ new model divisor }
     {
@@ -34,7 +34,7 @@ impl Board {
             return board.refuse(Refusal::DivisorZero);
         }
         Answered {
-            answer: Answer::Done,
+            answer: Ok(Answer::Done),
             board,
         }
     }

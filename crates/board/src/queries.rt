@@ -3,55 +3,52 @@ ghost use Rattle.std.specs.Prelude.{◌≡◌, []};
 ghost use Rattle.board.specs.Answer.{outcome, queried};
 ghost use Rattle.board.specs.Queries.{get_output_state, get_channel_count, does_channel_retrigger, is_dirty, get_timer_accum};
 
-use crate::{Answer, Answered, Board};
+use crate::{Answer, Answered, Board, DirtyMarks};
 use refusal::Refusal;
 use time::SystemTicks;
 
 impl Board {
-    pub fn get_output_state(self, channel: usize) -> Answer
+    #[tactic(auto, unfolding(crate::specs::Queries::get_output_state))]
+    pub fn get_output_state(self, channel: usize) -> Result<Answer, Refusal>
         ensures { queried result self ≡ get_output_state self channel }
     {
-        if 2 < channel {
-            return Answer::Refused(Refusal::ChannelAbove2);
-        }
-        let c = self.channels[channel];
-        Answer::OutputState(c.get_output_state())
+        let c = self.channels.get(channel).ok_or(Refusal::ChannelAbove2)?;
+        Ok(Answer::OutputState(c.get_output_state()))
     }
 
-    pub fn get_channel_count(self, channel: usize) -> Answer
+    #[tactic(auto, unfolding(crate::specs::Queries::get_channel_count))]
+    pub fn get_channel_count(self, channel: usize) -> Result<Answer, Refusal>
         ensures { queried result self ≡ get_channel_count self channel }
     {
-        if 2 < channel {
-            return Answer::Refused(Refusal::ChannelAbove2);
-        }
-        let c = self.channels[channel];
-        Answer::Count(c.get_channel_count())
+        let c = self.channels.get(channel).ok_or(Refusal::ChannelAbove2)?;
+        Ok(Answer::Count(c.get_channel_count()))
     }
 
-    pub fn does_channel_retrigger(self, channel: usize) -> Answer
+    #[tactic(auto, unfolding(crate::specs::Queries::does_channel_retrigger))]
+    pub fn does_channel_retrigger(self, channel: usize) -> Result<Answer, Refusal>
         ensures { queried result self ≡ does_channel_retrigger self channel }
     {
-        if 2 < channel {
-            return Answer::Refused(Refusal::ChannelAbove2);
-        }
-        let c = self.channels[channel];
-        Answer::Retriggers(c.does_channel_retrigger())
+        let c = self.channels.get(channel).ok_or(Refusal::ChannelAbove2)?;
+        Ok(Answer::Retriggers(c.does_channel_retrigger()))
     }
 
     // Clears the mark, so it hands the board back.
+    #[tactic(auto, unfolding(crate::specs::Queries::is_dirty))]
     pub fn is_dirty(self, channel: usize) -> Answered
         ensures { outcome result [] ≡ is_dirty self channel }
     {
         if 2 < channel {
             return self.refuse(Refusal::ChannelAbove2);
         }
-        let c = self.channels[channel];
-        let got = c.is_dirty();
-        let cleared = got.channel;
+        let got = self.channels[channel].is_dirty();
         let mut board = self;
-        board.channels[channel] = cleared;
+        board.channels[channel] = got.channel;
         Answered {
-            answer: Answer::Dirty(got.dirty, got.counting, got.ticked),
+            answer: Ok(Answer::Dirty(DirtyMarks {
+                dirty: got.dirty,
+                counting: got.counting,
+                ticked: got.ticked,
+            })),
             board,
         }
     }

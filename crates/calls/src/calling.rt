@@ -4,23 +4,23 @@ ghost use Rattle.board.specs.Answer.{outcome};
 ghost use Rattle.board.specs.Counting.{counts, load_cycle};
 ghost use Rattle.board.specs.Making.{reset};
 ghost use Rattle.clock.specs.Clock.{catch_up, run};
+ghost use Rattle.owed.specs.Worked.{work_off};
 ghost use Rattle.ports.specs.Gates.{set_channel_gate};
 ghost use Rattle.ports.specs.Reads.{read_port};
 ghost use Rattle.ports.specs.Writes.{write_port};
 
-use crate::{bare, on_board};
+use crate::{bare, take};
 use board::{Answered, Board};
 use time::SystemTicks;
 use turn::finding;
+use turn::finding::Turn;
 
 // A byte written to a port. It takes no time. Refusals 1, 16, 7 and 8.
 pub fn write_port(b: Board, port: u16, byte: u8, events: &mut [u8], place: usize) -> Answered
     ensures { outcome result events.new ≡ write_port b port byte events.old place }
 {
-    let owed = b.owed;
-    let model = b.model;
-    let turn = finding::write_turn(port, byte, owed.0 != 0, model);
-    on_board(b, turn, events, place)
+    let turn = finding::write_turn(port, byte, b.owed.0 != 0, b.model);
+    take(b, turn, events, place)
 }
 
 // A byte read from a port. Refusal 1.
@@ -40,9 +40,8 @@ pub fn set_channel_gate(
 ) -> Answered
     ensures { outcome result events.new ≡ set_channel_gate b channel level events.old place }
 {
-    let owed = b.owed;
-    let turn = finding::gate_turn(channel, level, owed.0 != 0);
-    on_board(b, turn, events, place)
+    let turn = finding::gate_turn(channel, level, b.owed.0 != 0);
+    take(b, turn, events, place)
 }
 
 // Refusal 2, whatever the number.
@@ -63,21 +62,26 @@ pub fn load_cycle(b: Board, channel: usize) -> Answered
 pub fn catch_up(b: Board, ticks: SystemTicks) -> Answered
     ensures { outcome result [] ≡ catch_up b ticks.0 }
 {
-    bare(b, finding::catch_up_turn(ticks))
+    bare(b, Ok(finding::catch_up_turn(ticks)))
 }
 
 // At the end of an instruction. The same refusals.
 pub fn run(b: Board, ticks: SystemTicks) -> Answered
     ensures { outcome result [] ≡ run b ticks.0 }
 {
-    bare(b, finding::run_turn(ticks))
+    bare(b, Ok(finding::run_turn(ticks)))
 }
 
 // Three fresh channels with their gates. Nothing is lent for events: a reset raises none, even where an output changes. Refusal 16.
 pub fn reset(b: Board) -> Answered
     ensures { outcome result [] ≡ reset b }
 {
-    let owed = b.owed;
-    let turn = finding::reset_turn(owed.0 != 0);
-    bare(b, turn)
+    bare(b, finding::reset_turn(b.owed.0 != 0))
+}
+
+// At most the stated number of owed ticks, each with all of its events or not at all. Refusals 7 and 15.
+pub fn work_off(b: Board, stated: u32, events: &mut [u8], place: usize) -> Answered
+    ensures { outcome result events.new ≡ work_off b stated events.old place }
+{
+    take(b, Ok(Turn::WorkOff(stated)), events, place)
 }

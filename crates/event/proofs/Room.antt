@@ -8,7 +8,7 @@ use lib.Dec.{ltb}
 use lib.ListN.{length}
 use borrow.Author.Tests.{ltb-true, ltb-false}
 use Rattle.refusal.specs.Reply.{refused, accepted}
-use Rattle.event.specs.declared.Event.TheVariants.{Unchanged, Level}
+use Rattle.std.specs.Prelude.{Some, None}
 use Rattle.event.specs.Event.{Placing, event_of, event_at, place_event}
 
 module _ (events : List ℕ) (place : ℕ) (P : Placing → Type 0) (past : length events < place → P (record { reply = refused 7; bytes = events })) where
@@ -18,7 +18,7 @@ module _ (events : List ℕ) (place : ℕ) (P : Placing → Type 0) (past : leng
   unchanged-by true o inside = past (ltb-true _ _ o)
   unchanged-by false o inside = inside (ltb-false _ _ o)
 
-  pub by-unchanged : (place ≤ length events → P (record { reply = accepted place; bytes = events })) → P (place_event Unchanged events place)
+  pub by-unchanged : (place ≤ length events → P (record { reply = accepted place; bytes = events })) → P (place_event None events place)
   unfolding place_event
   by-unchanged inside = unchanged-by (ltb (length events) place) refl inside
 
@@ -37,11 +37,11 @@ module _ (events : List ℕ) (place : ℕ) (P : Placing → Type 0) (past : leng
   pub by_level : (n : ℕ) (level : Bool)
       → (place ≤ length events → length events - place < 2 → P (record { reply = refused 8; bytes = events }))
       → (place + 2 ≤ length events → P (record { reply = accepted (place + 2); bytes = event_at n level events place }))
-      → P (place_event (Level n level) events place)
+      → P (place_event (Some (record { channel = n; level = level })) events place)
   unfolding place_event
   by_level n level few room = level_by n level (ltb (length events) place) (ltb (length events - place) 2) refl refl few room
 
 -- "Setting a level that already stands is no event."
-pub standing-level : (n : ℕ) (level : Bool) → event_of n level level ≡ Unchanged
+pub standing-level : (n : ℕ) (level : Bool) → event_of n level level ≡ None
 standing-level n true = refl
 standing-level n false = refl

@@ -2,77 +2,49 @@
 #![tactic(auto)]
 
 ghost use Rattle.std.specs.Prelude.{◌≡◌, ◌≤◌, ◌++◌, length, drop};
-ghost use Rattle.event.specs.Event.{same_level, event_of, level_event, event_bytes, placing, place_event};
+ghost use Rattle.event.specs.Event.{level_event, event_bytes, placing, place_event};
 
 use channel::Channel;
 use refusal::Refusal;
 
-#[derive(Clone, Copy)]
-pub enum Event {
-    // The output stays where it is.
-    Unchanged,
-    // The channel's place on the board, as the caller gives it, and its new level.
-    Level(u8, bool),
-}
-
-// The new place in the event bytes, or why nothing was written.
-#[derive(Clone, Copy)]
-pub enum Placed {
-    At(usize),
-    Refused(Refusal),
-}
-
-fn same_level(was: bool, is: bool) -> bool
-    ensures { result ≡ same_level was is }
-{
-    if was {
-        if is { true } else { false }
-    } else {
-        if is { false } else { true }
-    }
-}
-
-// The event of an output that goes from one level to another.
-fn event_of(channel: u8, was: bool, is: bool) -> Event
-    ensures { result ≡ event_of channel was is }
-{
-    if same_level(was, is) {
-        return Event::Unchanged;
-    }
-    Event::Level(channel, is)
+// A change of output level: the channel's place on the board, as the caller gives it, and its new level. Where the output stays there is none.
+#[derive(Clone, Copy, Debug, PartialEq, Eq)]
+pub struct Event {
+    pub channel: u8,
+    pub level: bool,
 }
 
 // The event of a channel, at this place on the board, whose record becomes another.
-pub fn level_event(n: u8, old: Channel, new: Channel) -> Event
+pub fn level_event(n: u8, old: Channel, new: Channel) -> Option<Event>
     ensures { result ≡ level_event n old new }
 {
-    let was = old.pins;
-    let is = new.pins;
-    event_of(n, was.output, is.output)
+    let level = new.pins.output;
+    (level != old.pins.output).then_some(Event { channel: n, level })
 }
 
 // The event writer: it is lent the rest of the event bytes, from the place on.
-fn write_event(rest: &mut [u8], channel: u8, level: bool)
+fn write_event(rest: &mut [u8], event: Event)
     requires { 2 ≤ length rest.old }
-    ensures { rest.new ≡ event_bytes (Event.Level channel level) ++ drop 2 rest.old }
+    ensures { rest.new ≡ event_bytes (Some event) ++ drop 2 rest.old }
 {
-    rest[0] = channel;
-    rest[1] = numbers::flag_byte(level);
+    rest[0] = event.channel;
+    rest[1] = u8::from(event.level);
 }
 
-// Refusals 7 and 8 are given here, before any byte is written.
-pub fn place_event(events: &mut [u8], place: usize, event: Event) -> Placed
+// The new place in the event bytes. Refusals 7 and 8 are given here, before any byte is written.
+#[tactic(auto, unfolding(crate::specs::Event::place_event))]
+pub fn place_event(events: &mut [u8], place: usize, event: Option<Event>) -> Result<usize, Refusal>
     ensures { placing result events.new ≡ place_event event events.old place }
 {
     if events.len() < place {
-        return Placed::Refused(Refusal::PlacePastEnd);
+        return Err(Refusal::PlacePastEnd);
     }
-    let Event::Level(channel, level) = event else {
-        return Placed::At(place);
+    let Some(event) = event else {
+        return Ok(place);
     };
     if events.len() - place < 2 {
-        return Placed::Refused(Refusal::NoRoom);
+        return Err(Refusal::NoRoom);
     }
-    write_event(&mut events[place..], channel, level);
-    Placed::At(place + 2)
+    write_event(&mut events[place..], event);
+    Ok(place + 2)
 }

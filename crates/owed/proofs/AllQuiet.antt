@@ -45,7 +45,7 @@ module _ (c₀ c₁ c₂ : Channel) (owed stated : ℕ) where
     abbrev after : Board → Board
     after b = owing b (owed - run) (skip run c₀ ∷ skip run c₁ ∷ skip run c₂ ∷ [])
 
-    comes-to : smaller stated owed ≤ run → (b : Board) (model : PitType) → Has b c₀ c₁ c₂ model owed → (events : List ℕ) (place : ℕ)
+    comes-to : smaller stated owed ≤ run → (b : Board) (model : PitType) → Has b (c₀ ∷ c₁ ∷ c₂ ∷ []) model owed → (events : List ℕ) (place : ℕ)
         → place ≤ length events → work_off b stated events place ≡ record { reply = accepted (worked run place); board = after b; events = events }
     comes-to all b model has events place inside =
         let f : Few stated owed c₀ c₁ c₂ run = alike-few _ _ _ _ _ _ found.number_is in

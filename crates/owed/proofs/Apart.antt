@@ -2,21 +2,22 @@
 use Prim.Native.Nat.{ℕ}
 use mathlib.Core.List.{List}
 use mathlib.Core.Path.{◌≡◌, ap}
+use Rattle.std.specs.Prelude.{Result}
+use Rattle.refusal.specs.declared.Refusal.{Refusal}
+use Rattle.channel.specs.declared.Channel.{Channel}
+use Rattle.time.specs.declared.TimerTicks.{TimerTicks}
 use Rattle.board.specs.declared.Board.{Board}
-use Rattle.board.specs.Board.{channel_at}
+use Rattle.board.specs.declared.Answer.{Answer}
 use Rattle.board.specs.Outcome.{Outcome}
 use Rattle.board.proofs.Apart.{answers-apart}
-use Rattle.owed.specs.declared.Ticked.{Ticked}
 use Rattle.owed.specs.Ticked.{ticked_on}
 
-pub ticked-apart : (b : Board) (t u : Ticked) (events then : List ℕ) → ticked_on b t events ≡ ticked_on b u then → (t ≡ u) × (events ≡ then)
-ticked-apart b t u events then e = (
-  λ i. record {
-    answer = answers-apart t.answer u.answer (ap (λ (o : Outcome). o.reply) e) i;
-    c0 = channel_at (e i).board 0;
-    c1 = channel_at (e i).board 1;
-    c2 = channel_at (e i).board 2;
-    owed = (e i).board.owed;
-  },
+pub ticked-apart : (b : Board) (r s : Result Answer Refusal) (channels others : List Channel) (owed left : TimerTicks) (events then : List ℕ)
+    → ticked_on b r channels owed events ≡ ticked_on b s others left then
+    → (r ≡ s) × (channels ≡ others) × (owed ≡ left) × (events ≡ then)
+ticked-apart b r s channels others owed left events then e = (
+  answers-apart r s (ap (λ (o : Outcome). o.reply) e),
+  ap (λ (o : Outcome). o.board.channels) e,
+  ap (λ (o : Outcome). o.board.owed) e,
   ap (λ (o : Outcome). o.events) e,
 )

@@ -10,38 +10,38 @@ use Rattle.refusal.specs.Reply.{Reply, refused, accepted}
 use Rattle.refusal.specs.Refusal.{refusal_number}
 use Rattle.refusal.proofs.Apart.{refused-not}
 use Rattle.event.specs.declared.Event.{Event}
-use Rattle.event.specs.declared.Event.TheVariants.{Unchanged, Level}
-use Rattle.event.specs.declared.Placed.{Placed}
-use Rattle.event.specs.declared.Placed.TheVariants.{At, Refused}
+use Rattle.std.specs.Prelude.{Option, Some, None, Result, Ok, Err}
+use Rattle.std.specs.Result.{result_unwrap_or}
+use Rattle.refusal.specs.declared.Refusal.{Refusal}
 use Rattle.event.specs.Event.{Placing, place_event, placing}
 use Rattle.event.proofs.Written.{event-written}
 use Rattle.board.specs.declared.Board.{Board}
 use Rattle.owed.specs.BoardTick.{tick_event}
 use Rattle.owed.specs.Worked.{Room, put, size, needed, put_all}
 
-pub size_small : (e : Event) → size e ≤ 2
-size_small Unchanged = omega arith
-size_small (Level channel level) = omega arith
+pub size_small : (e : Option Event) → size e ≤ 2
+size_small None = omega arith
+size_small (Some event) = omega arith
 
-pub put-place : (e : Event) (room : Room) → (put e room).place ≡ room.place + size e
-put-place Unchanged room = sym (add-zero room.place)
-put-place (Level channel level) room = refl
+pub put-place : (e : Option Event) (room : Room) → (put e room).place ≡ room.place + size e
+put-place None room = sym (add-zero room.place)
+put-place (Some event) room = refl
 
-pub put-length : (e : Event) (room : Room) → room.place + size e ≤ length room.bytes → length (put e room).bytes ≡ length room.bytes
-put-length Unchanged room h = refl
-put-length (Level channel level) room h = (event-written channel level room.bytes room.place h).same_length
+pub put-length : (e : Option Event) (room : Room) → room.place + size e ≤ length room.bytes → length (put e room).bytes ≡ length room.bytes
+put-length None room h = refl
+put-length (Some event) room h = (event-written event.channel event.level room.bytes room.place h).same_length
 
 abbrev accepts : Room → Placing
 accepts room = record { reply = accepted room.place; bytes = room.bytes }
 
 -- an event that has room is not refused
-put-taken : (e : Event) (bytes : List ℕ) (place : ℕ) → place + size e ≤ length bytes
+put-taken : (e : Option Event) (bytes : List ℕ) (place : ℕ) → place + size e ≤ length bytes
     → place_event e bytes place ≡ accepts (put e (record { bytes = bytes; place = place }))
 unfolding place_event
-put-taken Unchanged bytes place h =
+put-taken None bytes place h =
     let inside : place ≤ length bytes = omega arith in
     simp (le-ltb _ _ inside)
-put-taken (Level channel level) bytes place h =
+put-taken (Some event) bytes place h =
     let inside : place ≤ length bytes = omega arith in
     let enough : 2 ≤ length bytes - place = omega arith in
     simp (le-ltb _ _ inside, le-ltb _ _ enough)
@@ -53,28 +53,23 @@ place_said (accepted place) = place
 abbrev room_said : Placing → Room
 room_said p = record { bytes = p.bytes; place = place_said p.reply }
 
--- the place that an answer of the event writer leads to: the old one, should it be refused
-abbrev pub place_after : Placed → ℕ → ℕ
-place_after (At at) place = at
-place_after (Refused refusal) place = place
-
--- .. which is where the event's room leads to
-pub put-placed : (e : Event) (bytes : List ℕ) (place : ℕ) → place + size e ≤ length bytes → (p : Placed) (after : List ℕ)
+-- the place that the event writer answers, or the old one, should it refuse, is where the event's room leads to
+pub put-placed : (e : Option Event) (bytes : List ℕ) (place : ℕ) → place + size e ≤ length bytes → (p : Result ℕ Refusal) (after : List ℕ)
     → placing p after ≡ place_event e bytes place
-    → record { bytes = after; place = place_after p place } ≡ put e (record { bytes = bytes; place = place })
-put-placed e bytes place h (At at) after said = ap room_said (said ∙ put-taken e bytes place h)
-put-placed e bytes place h (Refused refusal) after said =
+    → record { bytes = after; place = result_unwrap_or p place } ≡ put e (record { bytes = bytes; place = place })
+put-placed e bytes place h (Ok at) after said = ap room_said (said ∙ put-taken e bytes place h)
+put-placed e bytes place h (Err refusal) after said =
     absurd (refused-not (refusal_number refusal) _ (ap (λ (p : Placing). p.reply) (said ∙ put-taken e bytes place h)))
 
 -- the room after an event, for the next ones
-pub still-fits : (e : Event) (room after : Room) → after ≡ put e room → (more : ℕ) → room.place + (size e + more) ≤ length room.bytes
+pub still-fits : (e : Option Event) (room after : Room) → after ≡ put e room → (more : ℕ) → room.place + (size e + more) ≤ length room.bytes
     → after.place + more ≤ length after.bytes
 still-fits e room after is more h =
     let moved : after.place ≡ room.place + size e = ap (λ (r : Room). r.place) is ∙ put-place e room in
     let kept : length after.bytes ≡ length room.bytes = ap (λ (r : Room). length r.bytes) is ∙ put-length e room (omega arith) in
     omega (arith, moved, kept, h)
 
-pub puts-fit : (e f g : Event) (room : Room) → room.place + (size e + size f + size g) ≤ length room.bytes
+pub puts-fit : (e f g : Option Event) (room : Room) → room.place + (size e + size f + size g) ≤ length room.bytes
     → (length (put g (put f (put e room))).bytes ≡ length room.bytes) × ((put g (put f (put e room))).place ≡ room.place + (size e + size f + size g))
 puts-fit e f g room h =
     let first = put e room in

@@ -5,29 +5,22 @@ use mathlib.Core.List.{List, [], ◌∷◌}
 use mathlib.Core.Path.{◌≡◌, refl, sym, ap, ap₂, ◌∙◌}
 use native.Mathlib.Nat.{add-zero, sub-zero}
 use native.Mathlib.Omega.{arith}
-use lib.ListN.{length, get_or}
+use lib.ListN.{length}
 use borrow.Author.Tests.{le-ltb, ne_eqb}
 use Rattle.numbers.specs.Times.{times}
 use Rattle.channel.specs.declared.Channel.{Channel}
-use Rattle.channel.specs.Blank.{blank}
 use Rattle.tick.specs.Tick.{tick}
 use Rattle.quiet.specs.Inner.{skip}
 use Rattle.event.specs.declared.Event.{Event}
-use Rattle.event.specs.declared.Event.TheVariants.{Unchanged}
+use Rattle.std.specs.Prelude.{Option, None}
 use Rattle.event.specs.Event.{event_of}
 use Rattle.event.proofs.Room.{standing-level}
 use Rattle.board.specs.declared.Board.{Board}
 use Rattle.board.specs.Board.{channel_at, owing}
+use Rattle.board.proofs.Channels.{three-are}
 use Rattle.owed.specs.BoardTick.{board_tick, tick_event}
 use Rattle.owed.specs.Inner.{Skips}
 use Rattle.owed.specs.Worked.{Room, put, size, needed, Work, one_more, stops, work_up_to}
-
-pub three-are : (xs : List Channel) → length xs ≡ 3 → xs ≡ get_or xs 0 blank ∷ get_or xs 1 blank ∷ get_or xs 2 blank ∷ []
-three-are [] three = absurd (omega arith)
-three-are (x ∷ []) three = absurd (omega arith)
-three-are (x ∷ y ∷ []) three = absurd (omega arith)
-three-are (x ∷ y ∷ z ∷ []) three = refl
-three-are (x ∷ y ∷ z ∷ w ∷ xs) three = absurd (omega arith)
 
 -- a channel of the board, so many ticks later
 abbrev later_at : Board → ℕ → ℕ → Channel
@@ -58,18 +51,18 @@ module _ (b : Board) (three : length b.channels ≡ 3) where
 abbrev Still : Board → ℕ → Type 0
 Still b k = (n : ℕ) → n < 3 → (j : ℕ) → j ≤ k → (later_at b j n).pins.output ≡ (channel_at b n).pins.output
 
-no-event : (n : ℕ) (was is : Bool) → is ≡ was → event_of n was is ≡ Unchanged
+no-event : (n : ℕ) (was is : Bool) → is ≡ was → event_of n was is ≡ None
 no-event n was is same = ap (event_of n was) same ∙ standing-level n was
 
 -- a tick with no event needs no room and leaves it as it is
-no_size : (e₀ e₁ e₂ : Event) → e₀ ≡ Unchanged → e₁ ≡ Unchanged → e₂ ≡ Unchanged → size e₀ + size e₁ + size e₂ ≡ 0
+no_size : (e₀ e₁ e₂ : Option Event) → e₀ ≡ None → e₁ ≡ None → e₂ ≡ None → size e₀ + size e₁ + size e₂ ≡ 0
 no_size e₀ e₁ e₂ n₀ n₁ n₂ = simp (n₀, n₁, n₂)
 
-same-room : (e₀ e₁ e₂ : Event) → e₀ ≡ Unchanged → e₁ ≡ Unchanged → e₂ ≡ Unchanged → (room : Room) → put e₂ (put e₁ (put e₀ room)) ≡ room
+same-room : (e₀ e₁ e₂ : Option Event) → e₀ ≡ None → e₁ ≡ None → e₂ ≡ None → (room : Room) → put e₂ (put e₁ (put e₀ room)) ≡ room
 same-room e₀ e₁ e₂ n₀ n₁ n₂ room = simp (n₀, n₁, n₂)
 
 module _ (b : Board) (three : length b.channels ≡ 3) (k : ℕ) (still : Still b (suc k)) where
-  quiet-tick : (n : ℕ) → n < 3 → tick_event (times k board_tick b) n ≡ Unchanged
+  quiet-tick : (n : ℕ) → n < 3 → tick_event (times k board_tick b) n ≡ None
   quiet-tick n few =
       let d = times k board_tick b in
       let here : channel_at d n ≡ later_at b k n = channel-is b three k n few in

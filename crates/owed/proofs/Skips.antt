@@ -1,5 +1,5 @@
 -- How many ticks are skipped at once, and that they are quiet on each channel. Assumes nothing.
-use Prim.Native.Nat.{ℕ, ◌<◌, ◌≤◌}
+use Prim.Native.Nat.{ℕ, ◌<◌, ◌≤◌, min}
 use mathlib.Core.Path.{◌≡◌}
 use native.Mathlib.Omega.{arith}
 use lib.Dec.{ltb}
@@ -10,6 +10,12 @@ use Rattle.quiet.specs.Inner.{quiet}
 use Rattle.quiet.proofs.ManyTicks.{skip-is-ticks, quiet-output}
 use Rattle.owed.specs.Told.{smaller}
 use Rattle.owed.specs.Inner.{alike, Skips}
+
+-- what `min` answers
+pub min-smaller : (m n : ℕ) → min m n ≡ smaller m n
+min-smaller m n =
+    pick-knowing (λ k. min m n ≡ k) (ltb n m) n m (λ below. let h : n < m = ltb-true _ _ below in omega arith)
+    (λ above. let h : m ≤ n = ltb-false _ _ above in omega arith)
 
 not-above-first : (m n : ℕ) → smaller m n ≤ m
 not-above-first m n =

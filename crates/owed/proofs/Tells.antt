@@ -6,7 +6,7 @@ use lib.ListN.{length, drop, length-append}
 use lib.Seq.{take-append_seam, drop-append_seam, drop-drop}
 use Rattle.numbers.specs.Times.{times}
 use Rattle.event.specs.declared.Event.{Event}
-use Rattle.event.specs.declared.Event.TheVariants.{Unchanged, Level}
+use Rattle.std.specs.Prelude.{Option, Some, None}
 use Rattle.event.specs.Event.{event_bytes}
 use Rattle.board.specs.declared.Board.{Board}
 use Rattle.owed.specs.BoardTick.{board_tick, tick_event}
@@ -17,13 +17,13 @@ use Rattle.owed.specs.Told.{tick_bytes, all_bytes}
 abbrev pub between : List ℕ → List ℕ → Room
 between written rest = record { bytes = written ++ rest; place = length written }
 
-event-size : (e : Event) → length (event_bytes e) ≡ size e
-event-size Unchanged = refl
-event-size (Level channel level) = refl
+event-size : (e : Option Event) → length (event_bytes e) ≡ size e
+event-size None = refl
+event-size (Some event) = refl
 
-put-behind : (e : Event) (written rest : List ℕ) → put e (between written rest) ≡ between (written ++ event_bytes e) (drop (size e) rest)
-put-behind Unchanged written rest = ap (λ (l : List ℕ). between l rest) (sym (append-nil written))
-put-behind (Level channel level) written rest = simp (take-append_seam, drop-append_seam, append_assoc, length-append)
+put-behind : (e : Option Event) (written rest : List ℕ) → put e (between written rest) ≡ between (written ++ event_bytes e) (drop (size e) rest)
+put-behind None written rest = ap (λ (l : List ℕ). between l rest) (sym (append-nil written))
+put-behind (Some event) written rest = simp (take-append_seam, drop-append_seam, append_assoc, length-append)
 
 pub tick-size : (b : Board) → length (tick_bytes b) ≡ needed b
 tick-size b = simp (length-append, event-size)

@@ -1,5 +1,5 @@
 -- One tick of the board: docs/TICK.md, "The board".
-use Rattle.std.specs.Prelude.{ℕ, ◌-◌, [], ◌∷◌}
+use Rattle.std.specs.Prelude.{ℕ, ◌-◌, [], ◌∷◌, Option}
 use Rattle.channel.specs.declared.Channel.{Channel}
 use Rattle.event.specs.declared.Event.{Event}
 use Rattle.event.specs.Event.{level_event}
@@ -25,5 +25,5 @@ board_tick b =
     }
 
 -- the event of a channel in a tick of the board: its "output level after it differs from before"
-abbrev pub tick_event : Board → ℕ → Event
+abbrev pub tick_event : Board → ℕ → Option Event
 tick_event b n = level_event n (channel_at b n) (ticked_at b n)

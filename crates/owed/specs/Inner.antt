@@ -39,7 +39,7 @@ quiet_run c₀ c₁ c₂ owed stated =
 pub record QuietRun (c₀ c₁ c₂ : Channel) (owed stated run : ℕ) : Type 0 where
   pub run_is : run ≡ quiet_run c₀ c₁ c₂ owed stated
   pub in-owed : run ≤ owed
-  pub all_quiet : 0 < run → (b : Board) (model : PitType) → Has b c₀ c₁ c₂ model owed → (events : List ℕ) (place : ℕ) → place ≤ length events
+  pub all_quiet : 0 < run → (b : Board) (model : PitType) → Has b (c₀ ∷ c₁ ∷ c₂ ∷ []) model owed → (events : List ℕ) (place : ℕ) → place ≤ length events
       → work_off b stated events place
       ≡ record {
         reply = accepted (worked run place);

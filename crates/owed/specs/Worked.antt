@@ -1,8 +1,7 @@
 -- Owed ticks worked off: 02, L1: "Working them off stops after the stated number of ticks and reports how many it made".
-use Rattle.std.specs.Prelude.{ℕ, zero, suc, ◌+◌, ◌-◌, Bool, cond, ◌||◌, List, eqb, ltb, length}
+use Rattle.std.specs.Prelude.{ℕ, zero, suc, ◌+◌, ◌-◌, Bool, cond, ◌||◌, List, eqb, ltb, length, Option, Some, None}
 use Rattle.refusal.specs.Reply.{accepted}
 use Rattle.event.specs.declared.Event.{Event}
-use Rattle.event.specs.declared.Event.TheVariants.{Unchanged, Level}
 use Rattle.event.specs.Event.{event_at}
 use Rattle.board.specs.declared.Board.{Board}
 use Rattle.board.specs.Outcome.{Outcome, worked, refuse}
@@ -14,14 +13,14 @@ pub record Room : Type 0 where
   pub place : ℕ
 
 -- document 01's event, written where there is one: "The new place is the old plus 2, or the old if no event."
-abbrev pub put : Event → Room → Room
-put Unchanged room = room
-put (Level channel level) room = record { bytes = event_at channel level room.bytes room.place; place = room.place + 2 }
+abbrev pub put : Option Event → Room → Room
+put None room = room
+put (Some event) room = record { bytes = event_at event.channel event.level room.bytes room.place; place = room.place + 2 }
 
 -- how many bytes an event takes
-abbrev pub size : Event → ℕ
-size Unchanged = 0
-size (Level channel level) = 2
+abbrev pub size : Option Event → ℕ
+size None = 0
+size (Some event) = 2
 
 -- "the next tick's events, in channel order": the bytes that they take, and the room after them
 abbrev pub needed : Board → ℕ

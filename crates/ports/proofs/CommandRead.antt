@@ -2,12 +2,12 @@
 use mathlib.Core.Bool.{false}
 use mathlib.Core.Path.{◌≡◌, refl}
 use Rattle.refusal.specs.Reply.{accepted}
-use Rattle.latch.specs.declared.label.WhichHalf.TheVariants.{Neither}
+use Rattle.std.specs.Prelude.{None}
 use Rattle.board.specs.declared.Board.{Board}
 use Rattle.board.specs.Outcome.{byte}
 use Rattle.ports.specs.Port.{port_of}
 use Rattle.ports.specs.Reads.{read_port}
 
-pub command-read : (b : Board) → (read_port b 0x43).reply ≡ accepted (byte (record { byte = 0; label = record { half = Neither; held = false } }))
+pub command-read : (b : Board) → (read_port b 0x43).reply ≡ accepted (byte (record { byte = 0; label = record { half = None; held = false } }))
 unfolding read_port port_of
 command-read b = refl

@@ -16,36 +16,47 @@ use Rattle.channel.proofs.Pick.{pick-holds}
 use Rattle.control.specs.declared.ReadBackWord.{ReadBackWord}
 use Rattle.control.specs.Control.{names}
 use Rattle.latch.specs.ReadBack.{read_back}
-use Rattle.event.specs.declared.Event.TheVariants.{Unchanged}
-use Rattle.event.specs.Event.{place_event}
+use Rattle.std.specs.Prelude.{None, Result, Ok, Err}
+use Rattle.refusal.specs.declared.Refusal.{Refusal}
+use Rattle.event.specs.Event.{placing, place_event}
 use Rattle.board.specs.declared.Board.{Board}
-use Rattle.board.specs.Board.{channel_at, with_channel, with_channels}
+use Rattle.board.specs.Board.{channel_at, with_channel}
 use Rattle.board.proofs.Channels.{put-found, put_other, put-own}
-use Rattle.board.specs.Outcome.{Outcome, Value, refuse}
+use Rattle.board.specs.Outcome.{Outcome, Value}
 use Rattle.board.proofs.Apart.{answers-apart}
-use Rattle.ports.specs.declared.reading_back.ThreeRead.{ThreeRead}
-use Rattle.ports.specs.Settled.{HasChannels, read_on}
+use Rattle.board.specs.declared.Answer.{Answer}
+use Rattle.board.specs.declared.Answer.TheVariants.{Place}
+use Rattle.ports.specs.Settle.{placed_on}
+use Rattle.ports.specs.Settled.{read_on}
 use Rattle.ports.specs.ReadBacks.{read_back_at, read_backs, read_back_write}
 use Rattle.ports.proofs.Settling.{after_holds, after-taken}
 
-module _ (b : Board) (c0 c1 c2 : Channel) (has : HasChannels b c0 c1 c2) where
-  pub three-read : (word : ReadBackWord) → read_backs word b ≡ with_channels b (read_back_at word 0 c0 ∷ read_back_at word 1 c1 ∷ read_back_at word 2 c2 ∷ [])
-  unfolding read_backs
-  three-read word =
-      ap
-      (λ (cs : List Channel). with_channels b
-      (set (set (set cs 0 (read_back_at word 0 (get_or cs 0 blank))) 1 (read_back_at word 1 (get_or cs 1 blank))) 2 (read_back_at word 2 (get_or cs 2 blank))))
-      has.three-are
-
+module _ (b : Board) (channels : List Channel) (has : b.channels ≡ channels) (word : ReadBackWord) (events : List ℕ) (place : ℕ) where
   -- where it is refused the board stays
-  pub three-refused : (number : ℕ) (events : List ℕ) → refuse number (with_channels b (c0 ∷ c1 ∷ c2 ∷ [])) events ≡ refuse number b events
-  three-refused number events = ap (λ (cs : List Channel). refuse number (with_channels b cs) events) (sym has.three-are)
+  pub three-refused : (refusal : Refusal) (after : List ℕ) → placing (Err refusal) after ≡ place_event None events place
+      → read_on b (Err refusal) channels after ≡ read_back_write b word events place
+  three-refused refusal after e =
+      ap (λ (cs : List Channel). read_on b (Err refusal) cs after) (sym has) ∙ ap (placed_on b (read_backs word b)) e
 
--- there is a board with any three records, so what the code answers is fixed
-abbrev board_of : Channel → Channel → Channel → Board
-board_of c0 c1 c2 =
+  -- where it is taken, each of the three is as the code leaves it
+  pub three-read : {c₀ c₁ c₂ d₀ d₁ d₂ : Channel} → channels ≡ c₀ ∷ c₁ ∷ c₂ ∷ [] → d₀ ≡ read_back_at word 0 c₀ → d₁ ≡ read_back_at word 1 c₁ → d₂ ≡ read_back_at word 2 c₂
+      → (at : ℕ) (after : List ℕ) → placing (Ok at) after ≡ place_event None events place
+      → read_on b (Ok (Place at)) (d₀ ∷ d₁ ∷ d₂ ∷ []) after ≡ read_back_write b word events place
+  unfolding read_backs
+  three-read three r₀ r₁ r₂ at after e =
+      (λ i. read_on b (Ok (Place at)) (r₀ i ∷ r₁ i ∷ r₂ i ∷ []) after)
+      ∙ ap
+      (λ (cs : List Channel). read_on b (Ok (Place at))
+      (set (set (set cs 0 (read_back_at word 0 (get_or cs 0 blank))) 1 (read_back_at word 1 (get_or cs 1 blank))) 2 (read_back_at word 2 (get_or cs 2 blank)))
+      after)
+      (sym (has ∙ three))
+      ∙ ap (placed_on b (read_backs word b)) e
+
+-- there is a board with any records, so what the code answers is fixed
+abbrev board_of : List Channel → Board
+board_of channels =
     record {
-      channels = c0 ∷ c1 ∷ c2 ∷ [];
+      channels = channels;
       model = Model8254;
       divisor = 0;
       remainder = record { 0 = 0 };
@@ -54,14 +65,13 @@ board_of c0 c1 c2 =
       owed = record { 0 = 0 };
     }
 
-pub three-read-apart : (c0 c1 c2 : Channel) (r s : ThreeRead) (events then : List ℕ)
-    → ((b : Board) → HasChannels b c0 c1 c2 → read_on b r events ≡ read_on b s then)
-    → (r ≡ s) × (events ≡ then)
-three-read-apart c0 c1 c2 r s events then same =
-    let e = same (board_of c0 c1 c2) (record { three-are = refl }) in
-    let at : (n : ℕ) → get_or (r.c0 ∷ r.c1 ∷ r.c2 ∷ []) n blank ≡ get_or (s.c0 ∷ s.c1 ∷ s.c2 ∷ []) n blank =
-    λ n. ap (λ (o : Outcome). get_or o.board.channels n blank) e in (
-      λ i. record { answer = answers-apart r.answer s.answer (ap (λ (o : Outcome). o.reply) e) i; c0 = at 0 i; c1 = at 1 i; c2 = at 2 i },
+pub three-read-apart : (channels : List Channel) (r s : Result Answer Refusal) (after other : List Channel) (events then : List ℕ)
+    → ((b : Board) → b.channels ≡ channels → read_on b r after events ≡ read_on b s other then)
+    → (r ≡ s) × (after ≡ other) × (events ≡ then)
+three-read-apart channels r s after other events then same =
+    let e = same (board_of channels) refl in (
+      answers-apart r s (ap (λ (o : Outcome). o.reply) e),
+      ap (λ (o : Outcome). o.board.channels) e,
       ap (λ (o : Outcome). o.events) e,
     )
 
@@ -131,8 +141,8 @@ module _ (b : Board) (word : ReadBackWord) where
 
 module _ (b : Board) (events : List ℕ) (place : ℕ) (word : ReadBackWord) where
   pub read-backs-hold : (P : Board → Type 0) → P b → P (read_backs word b) → P (read_back_write b word events place).board
-  read-backs-hold P = after_holds P (place_event Unchanged events place).reply b (read_backs word b)
+  read-backs-hold P = after_holds P (place_event None events place).reply b (read_backs word b)
 
   pub read-backs-taken : (value : Value) → (read_back_write b word events place).reply ≡ accepted value
       → (read_back_write b word events place).board ≡ read_backs word b
-  read-backs-taken = after-taken (place_event Unchanged events place).reply b (read_backs word b)
+  read-backs-taken = after-taken (place_event None events place).reply b (read_backs word b)

@@ -9,16 +9,20 @@ use Rattle.refusal.proofs.Apart.{refused-not}
 use Rattle.channel.specs.declared.Channel.{Channel}
 use Rattle.channel.specs.declared.PitType.{PitType}
 use Rattle.channel.specs.Blank.{blank}
-use Rattle.event.specs.declared.Event.TheVariants.{Unchanged}
-use Rattle.event.specs.Event.{level_event, place_event}
+use Rattle.std.specs.Prelude.{Option, None, Result, Ok, Err}
+use Rattle.refusal.specs.declared.Refusal.{Refusal}
+use Rattle.event.specs.declared.Event.{Event}
+use Rattle.event.specs.Event.{level_event, placing, place_event}
 use Rattle.board.specs.declared.Board.{Board}
 use Rattle.board.specs.Board.{channel_at, with_channel}
-use Rattle.board.specs.Outcome.{Outcome, Value, refuse}
+use Rattle.board.specs.Outcome.{Outcome, Value}
+use Rattle.board.specs.Answer.{reply_of}
 use Rattle.board.proofs.Apart.{answers-apart}
 use Rattle.board.proofs.Channels.{put-own}
-use Rattle.ports.specs.declared.Settled.{Settled}
+use Rattle.board.specs.declared.Answer.{Answer}
+use Rattle.board.specs.declared.Answer.TheVariants.{Place}
 use Rattle.ports.specs.Settled.{settled_on}
-use Rattle.ports.specs.Settle.{call_reply, board_after, settle, untouched}
+use Rattle.ports.specs.Settle.{call_reply, board_after, placed_on, settle, untouched}
 
 pub after_holds : (P : Board → Type 0) (reply : Reply ℕ) (old new : Board) → P old → P new → P (board_after reply old new)
 after_holds P (refused number) old new p q = p
@@ -28,10 +32,23 @@ pub after-taken : (reply : Reply ℕ) (old new : Board) (value : Value) → call
 after-taken (refused number) old new value took = absurd (refused-not number value took)
 after-taken (accepted place) old new value took = refl
 
--- a refused call that puts the channel's own record back leaves the board as it is
-pub own-refused : (b : Board) (n : ℕ) (c : Channel) → channel_at b n ≡ c → (number : ℕ) (events : List ℕ)
-    → refuse number (with_channel b n c) events ≡ refuse number b events
-own-refused b n c is number events = ap (λ (d : Board). refuse number d events) (put-own b n c is)
+-- the event that the code has placed, or not, is that of the board's own channel
+module _ (b : Board) (n : ℕ) (old new : Channel) (is : channel_at b n ≡ old) (event : Option Event) (due : event ≡ level_event n old new) (events : List ℕ) (place : ℕ) where
+  placed : (r : Result ℕ Refusal) (after : List ℕ) → placing r after ≡ place_event event events place → placed_on b (with_channel b n new) (placing r after) ≡ settle b n new events place
+  unfolding settle
+  placed r after e =
+      ap (placed_on b (with_channel b n new))
+      (e ∙ ap (λ d. place_event d events place) (due ∙ ap (λ (c : Channel). level_event n c new) (sym is)))
+
+  -- where it is refused, the channel's own record leaves the board as it is
+  pub settle-refused : (refusal : Refusal) (after : List ℕ) → placing (Err refusal) after ≡ place_event event events place
+      → settled_on b n (Err refusal) old after ≡ settle b n new events place
+  settle-refused refusal after e =
+      ap (λ (d : Board). record { reply = reply_of (Err refusal); board = d; events = after }) (put-own b n old is) ∙ placed (Err refusal) after e
+
+  pub settle-placed : (at : ℕ) (after : List ℕ) → placing (Ok at) after ≡ place_event event events place
+      → settled_on b n (Ok (Place at)) new after ≡ settle b n new events place
+  settle-placed at after e = placed (Ok at) after e
 
 -- there is a board with any record at any place, any model and any defer flag
 abbrev channels_with : ℕ → Channel → List Channel
@@ -59,21 +76,21 @@ board_with n c model defer =
     }
 
 -- so what the code answers, for any channel's number, is one answer: its outcomes on the boards that have the record fix it
-pub settled-apart : (n : ℕ) (old : Channel) (model : PitType) (defer : Bool) (r s : Settled) (events then : List ℕ)
-    → ((b : Board) → channel_at b n ≡ old → b.model ≡ model → b.defer ≡ defer → settled_on b n r events ≡ settled_on b n s then)
-    → (r ≡ s) × (events ≡ then)
-settled-apart n old model defer r s events then same =
+pub settled-apart : (n : ℕ) (old : Channel) (model : PitType) (defer : Bool) (r s : Result Answer Refusal) (c d : Channel) (events then : List ℕ)
+    → ((b : Board) → channel_at b n ≡ old → b.model ≡ model → b.defer ≡ defer → settled_on b n r c events ≡ settled_on b n s d then)
+    → (r ≡ s) × (c ≡ d) × (events ≡ then)
+settled-apart n old model defer r s c d events then same =
     let e = same (board_with n old model defer) (found-with n old) refl refl in
-    let lists = sym (put-with n old r.channel) ∙ ap (λ (o : Outcome). o.board.channels) e ∙ put-with n old s.channel in
-    let channels = sym (found-with n r.channel) ∙ ap (λ (l : List Channel). get_or l n blank) lists ∙ found-with n s.channel in (
-      λ i. record { answer = answers-apart r.answer s.answer (ap (λ (o : Outcome). o.reply) e) i; channel = channels i },
+    let lists = sym (put-with n old c) ∙ ap (λ (o : Outcome). o.board.channels) e ∙ put-with n old d in (
+      answers-apart r s (ap (λ (o : Outcome). o.reply) e),
+      sym (found-with n c) ∙ ap (λ (l : List Channel). get_or l n blank) lists ∙ found-with n d,
       ap (λ (o : Outcome). o.events) e,
     )
 
 module _ (b : Board) (events : List ℕ) (place : ℕ) where
   pub untouched-holds : (P : Board → Type 0) → P b → P (untouched b events place).board
   unfolding untouched
-  untouched-holds P p = after_holds P (place_event Unchanged events place).reply b b p p
+  untouched-holds P p = after_holds P (place_event None events place).reply b b p p
 
   module _ (n : ℕ) (c : Channel) where
     pub settle-holds : (P : Board → Type 0) → P b → P (with_channel b n c) → P (settle b n c events place).board

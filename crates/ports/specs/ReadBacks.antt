@@ -1,10 +1,9 @@
 -- Document 02, L5: the read-back on a board: the channels that it names, up to three at once.
-use Rattle.std.specs.Prelude.{ℕ, cond, List}
+use Rattle.std.specs.Prelude.{ℕ, cond, List, None}
 use Rattle.channel.specs.declared.Channel.{Channel}
 use Rattle.control.specs.declared.ReadBackWord.{ReadBackWord}
 use Rattle.control.specs.Control.{names}
 use Rattle.latch.specs.ReadBack as channel
-use Rattle.event.specs.declared.Event.TheVariants.{Unchanged}
 use Rattle.event.specs.Event.{place_event}
 use Rattle.board.specs.declared.Board.{Board}
 use Rattle.board.specs.Board.{channel_at, with_channel}
@@ -24,4 +23,4 @@ read_backs word b =
 
 -- no output moves, so no event is due: refusal 7 alone
 abbrev pub read_back_write : Board → ReadBackWord → List ℕ → ℕ → Outcome
-read_back_write b word events place = placed_on b (read_backs word b) (place_event Unchanged events place)
+read_back_write b word events place = placed_on b (read_backs word b) (place_event None events place)

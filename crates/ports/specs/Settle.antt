@@ -1,8 +1,7 @@
 -- Document 01, "Output events": a call that leaves a new record of one channel, and the event of its output.
-use Rattle.std.specs.Prelude.{ℕ, List}
+use Rattle.std.specs.Prelude.{ℕ, List, None}
 use Rattle.refusal.specs.Reply.{Reply, refused, accepted}
 use Rattle.channel.specs.declared.Channel.{Channel}
-use Rattle.event.specs.declared.Event.TheVariants.{Unchanged}
 use Rattle.event.specs.Event.{Placing, level_event, place_event}
 use Rattle.board.specs.declared.Board.{Board}
 use Rattle.board.specs.Board.{channel_at, with_channel}
@@ -29,4 +28,4 @@ settle b n c events place = placed_on b (with_channel b n c) (place_event (level
 
 -- a call that changes no channel: refusal 7 is given where the place is past the end, all the same
 unfoldable pub untouched : Board → List ℕ → ℕ → Outcome
-untouched b events place = placed_on b b (place_event Unchanged events place)
+untouched b events place = placed_on b b (place_event None events place)

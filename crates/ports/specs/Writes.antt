@@ -1,5 +1,5 @@
 -- Document 01: the port write, with refusals 1, 7, 8 in this order, and 16 of 02, L1, right after 1. "a port write itself takes no time".
-use Rattle.std.specs.Prelude.{ℕ, List}
+use Rattle.std.specs.Prelude.{ℕ, List, Option, Some, None}
 use Rattle.channel.specs.declared.ControlWord.{ControlWord}
 use Rattle.control.specs.declared.Command.{Command}
 use Rattle.control.specs.declared.Command.TheVariants.{Nothing, LatchCount, SetMode, ReadBack}
@@ -36,10 +36,10 @@ abbrev pub data_write : Board → ℕ → ℕ → List ℕ → ℕ → Outcome
 data_write b n byte events place = settle b n (write_byte (channel_at b n) byte b.defer) events place
 
 -- a byte to the port that its number names
-abbrev pub write_to : Board → Port → ℕ → List ℕ → ℕ → Outcome
-write_to b (port.Data n) byte events place = unless_owed b events (data_write b n byte events place)
-write_to b port.Command byte events place = unless_owed b events (control_register_write b (command_of b.model byte) events place)
-write_to b port.Unknown byte events place = refuse 1 b events
+abbrev pub write_to : Board → Option Port → ℕ → List ℕ → ℕ → Outcome
+write_to b (Some (port.Data n)) byte events place = unless_owed b events (data_write b n byte events place)
+write_to b (Some port.Command) byte events place = unless_owed b events (control_register_write b (command_of b.model byte) events place)
+write_to b None byte events place = refuse 1 b events
 
 -- Refusal 1: "port not 0x40 to 0x43"
 unfoldable pub write_port : Board → ℕ → ℕ → List ℕ → ℕ → Outcome

@@ -1,24 +1,16 @@
-// The read-back of three channels: the records in, the records out. Where they are taken from and put back is the caller's.
+// The read-back of three channels, where they stand.
 ghost use Rattle.std.specs.Prelude.{◌≡◌};
 ghost use Rattle.ports.specs.ReadBacks.{read_back_at, read_back_write};
-ghost use Rattle.ports.specs.Settled.{HasChannels, read_on};
+ghost use Rattle.ports.specs.Settled.{read_on};
 ghost use Rattle.board.specs.declared.Board.{Board};
 
 use board::Answer;
 use channel::Channel;
 use control::ReadBackWord;
-use event::{Event, Placed};
-
-// What is said of the write, and the three records: where it is refused, as they were.
-#[derive(Clone, Copy)]
-pub struct ThreeRead {
-    pub answer: Answer,
-    pub c0: Channel,
-    pub c1: Channel,
-    pub c2: Channel,
-}
+use refusal::Refusal;
 
 // Channel n, if it is named.
+#[tactic(auto, unfolding(crate::specs::ReadBacks::read_back_at))]
 pub fn read_back_at(word: ReadBackWord, n: u8, c: Channel) -> Channel
     ensures { result ≡ read_back_at word n c }
 {
@@ -28,30 +20,21 @@ pub fn read_back_at(word: ReadBackWord, n: u8, c: Channel) -> Channel
     c
 }
 
-// Refusal 7.
+// Where the place is refused the records stay. Refusal 7.
 pub fn read_back_three(
     word: ReadBackWord,
-    c0: Channel,
-    c1: Channel,
-    c2: Channel,
+    channels: &mut [Channel; 3],
     events: &mut [u8],
     place: usize,
-) -> ThreeRead
-    ensures { (b : Board) → HasChannels b c0 c1 c2 → read_on b result events.new ≡ read_back_write b word events.old place }
+) -> Result<Answer, Refusal>
+    ensures { (b : Board) → b.channels ≡ channels.old → read_on b result channels.new events.new ≡ read_back_write b word events.old place }
 {
-    let placed = event::place_event(events, place, Event::Unchanged);
-    match placed {
-        Placed::At(at) => ThreeRead {
-            answer: Answer::Place(at),
-            c0: read_back_at(word, 0, c0),
-            c1: read_back_at(word, 1, c1),
-            c2: read_back_at(word, 2, c2),
-        },
-        Placed::Refused(refusal) => ThreeRead {
-            answer: Answer::Refused(refusal),
-            c0,
-            c1,
-            c2,
-        },
-    }
+    let at = event::place_event(events, place, None)?;
+    let [c0, c1, c2] = *channels;
+    *channels = [
+        read_back_at(word, 0, c0),
+        read_back_at(word, 1, c1),
+        read_back_at(word, 2, c2),
+    ];
+    Ok(Answer::Place(at))
 }

@@ -1,3 +1,4 @@
 pub mod Apart
 pub mod Numbered
 pub mod Tests
+pub mod Replies

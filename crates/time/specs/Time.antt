@@ -1,10 +1,8 @@
 -- Document 01, "Time and reset": system ticks into timer ticks.
-use Rattle.std.specs.Prelude.{ℕ, ◌+◌, ◌-◌, ◌/◌, ◌%◌, cond, eqb, ltb}
-use Rattle.refusal.specs.Reply.{Reply, refused, accepted}
-use Rattle.refusal.specs.Refusal.{refusal_number}
+use Rattle.std.specs.Prelude.{ℕ, ◌+◌, ◌-◌, ◌/◌, ◌%◌, cond, eqb, ltb, Result}
+use Rattle.refusal.specs.Reply.{Reply, refused, accepted, reply_of}
+use Rattle.refusal.specs.declared.Refusal.{Refusal}
 use Rattle.time.specs.declared.Conversion.{Conversion}
-use Rattle.time.specs.declared.Passed.{Passed}
-use Rattle.time.specs.declared.Passed.TheVariants.{Converted, Refused}
 
 -- timer ticks yielded, and the system ticks kept
 pub record Yield : Type 0 where
@@ -30,6 +28,5 @@ ticks_from_time ticks warp remainder divisor =
 abbrev pub conversion : Conversion → Yield
 conversion c = record { ticks = c.ticks.0; remainder = c.remainder.0 }
 
-abbrev pub passed_reply : Passed → Reply Yield
-passed_reply (Converted c) = accepted (conversion c)
-passed_reply (Refused refusal) = refused (refusal_number refusal)
+abbrev pub passed_reply : Result Conversion Refusal → Reply Yield
+passed_reply = reply_of conversion

@@ -7,24 +7,18 @@ ghost use Rattle.time.specs.Time.{converted, conversion, passed_reply, ticks_fro
 use refusal::Refusal;
 
 // The processor's count: ticks given, the remainder and the warp.
-#[derive(Clone, Copy)]
+#[derive(Clone, Copy, Debug, PartialEq, Eq)]
 pub struct SystemTicks(pub u32);
 
 // The chip's count: ticks yielded, owed and made.
-#[derive(Clone, Copy)]
+#[derive(Clone, Copy, Debug, PartialEq, Eq)]
 pub struct TimerTicks(pub u32);
 
 // Timer ticks yielded, and the system ticks that did not make up another one.
-#[derive(Clone, Copy)]
+#[derive(Clone, Copy, Debug, PartialEq, Eq)]
 pub struct Conversion {
     pub ticks: TimerTicks,
     pub remainder: SystemTicks,
-}
-
-#[derive(Clone, Copy)]
-pub enum Passed {
-    Converted(Conversion),
-    Refused(Refusal),
 }
 
 fn yielding(ticks: u32, remainder: u32) -> Conversion
@@ -53,23 +47,22 @@ fn convert(sum: SystemTicks, divisor: u32) -> Conversion
 }
 
 // System ticks since the warp, added to the remainder and divided. Refusals 3, 4 and 5.
+#[tactic(auto, unfolding(crate::specs::Time::ticks_from_time))]
 pub fn ticks_from_time(
     ticks: SystemTicks,
     warp: SystemTicks,
     remainder: SystemTicks,
     divisor: u32,
-) -> Passed
+) -> Result<Conversion, Refusal>
     ensures { passed_reply result ≡ ticks_from_time ticks.0 warp.0 remainder.0 divisor }
 {
     if divisor == 0 {
-        return Passed::Refused(Refusal::DivisorZero);
+        return Err(Refusal::DivisorZero);
     }
-    if ticks.0 < warp.0 {
-        return Passed::Refused(Refusal::TicksBelowWarp);
-    }
-    let since = ticks.0 - warp.0;
-    if 4294967295 - remainder.0 < since {
-        return Passed::Refused(Refusal::RemainderTooLarge);
-    }
-    Passed::Converted(convert(SystemTicks(remainder.0 + since), divisor))
+    let since = ticks.0.checked_sub(warp.0).ok_or(Refusal::TicksBelowWarp)?;
+    let sum = remainder
+        .0
+        .checked_add(since)
+        .ok_or(Refusal::RemainderTooLarge)?;
+    Ok(convert(SystemTicks(sum), divisor))
 }

@@ -1,17 +1,20 @@
 -- An operation whose port or channel is found, and what it comes to on a board: the form in which a board is changed part by part, whoever owns it. It says nothing new:
 -- proofs/Turn.antt shows that nothing else is meant than the calls of the board.
-use Rattle.std.specs.Prelude.{ℕ, Bool, ◌||◌, List, ◌≡◌}
+use Rattle.std.specs.Prelude.{ℕ, Bool, true, ltb, cond, ◌||◌, List, ◌≡◌, Result, Ok, Err}
 use Rattle.numbers.specs.Times.{times}
 use Rattle.channel.specs.declared.Channel.{Channel}
 use Rattle.channel.specs.declared.PitType.{PitType}
 use Rattle.count.specs.Count.{count}
 use Rattle.load.specs.Cycle.{load_cycle}
 use Rattle.gate.specs.Gate.{set_gate}
+use Rattle.refusal.specs.declared.Refusal.{Refusal}
+use Rattle.refusal.specs.Refusal.{refusal_number}
+use Rattle.refusal.specs.Reply.{accepted}
 use Rattle.board.specs.declared.Board.{Board}
 use Rattle.board.specs.Board.{channel_at, with_channel}
-use Rattle.board.specs.Outcome.{Outcome, done, accept}
+use Rattle.board.specs.Outcome.{Outcome, done, refuse, accept}
 use Rattle.board.specs.Making.{restored}
-use Rattle.board.specs.Answer.{reply_of}
+use Rattle.board.specs.Answer.{value_of}
 use Rattle.clock.specs.Clock.{elapse}
 use Rattle.ports.specs.Settle.{settle, untouched}
 use Rattle.ports.specs.Reads.{data_read}
@@ -45,7 +48,26 @@ turned b turn.Reset events place = with_events events (accept done (restored b))
 turned b (turn.WorkOff stated) events place = work_off b stated events place
 turned b (turn.ReadBack word) events place = read_back_write b word events place
 turned b turn.Untouched events place = untouched b events place
-turned b (turn.Say answer) events place = record { reply = reply_of answer; board = b; events = events }
+turned b (turn.Say answer) events place = record { reply = accepted (value_of answer); board = b; events = events }
+
+-- whether a turn's channel is one of the board's: no finder finds another
+abbrev pub on_board : Turn → Bool
+on_board (turn.OnChannel n w) = ltb n 3
+on_board (turn.Elapse given next defers) = true
+on_board turn.Reset = true
+on_board (turn.WorkOff stated) = true
+on_board (turn.ReadBack word) = true
+on_board turn.Untouched = true
+on_board (turn.Say answer) = true
+
+-- a turn done to a board: "channel above 2" is refused, and the board stays
+abbrev pub done_on : Board → Turn → List ℕ → ℕ → Outcome
+done_on b t events place = cond (on_board t) (turned b t events place) (refuse 2 b events)
+
+-- .. or where none is found: "Each returns its number and the same board"
+abbrev pub taken : Board → Result Turn Refusal → List ℕ → ℕ → Outcome
+taken b (Ok t) events place = turned b t events place
+taken b (Err refusal) events place = refuse (refusal_number refusal) b events
 
 -- a board with this record at place n, this model and this defer flag
 pub record HasChannel (b : Board) (n : ℕ) (c : Channel) (model : PitType) (defer : Bool) : Type 0 where

@@ -4,7 +4,7 @@ use Rattle.owed.proofs.Working.{Working}
 use Rattle.owed.proofs.work_up_to.Given as goal
 
 abbrev pub invariant-loop-made : goal.invariant-loop-made
-invariant-loop-made l = Working l.fn.c0 l.fn.c1 l.fn.c2 l.fn.model l.fn.owed.0 l.fn.stated l.fn.events l.fn.place l.made l.left l.d0 l.d1 l.d2 l.events l.at
+invariant-loop-made l = Working l.fn.channels l.fn.model l.fn.owed.0 l.fn.stated l.fn.events l.fn.place l.made l.owed.0 l.channels l.events l.at
 
 abbrev pub decreases-loop-made : goal.decreases-loop-made
 decreases-loop-made l = l.stated - l.made

@@ -1,25 +1,14 @@
 -- The event that the code has placed, or not, is that of the board's own channel.
-use Rattle.std.proofs.Common.{◌∙◌, ap, sym}
-use Rattle.channel.specs.declared.Channel.{Channel}
-use Rattle.event.specs.Event.{level_event, place_event}
-use Rattle.board.specs.Board.{with_channel}
-use Rattle.ports.specs.Settle.{placed_on, settle}
-use Rattle.ports.proofs.Settling.{own-refused}
+use Rattle.std.proofs.lemmas.Result.{err_from_is_err_and}
+use Rattle.ports.proofs.Settling.{settle-refused, settle-placed}
 use Rattle.ports.proofs.settle.Goals as goal
 
-pub returns-in-At : goal.returns-in-At
-unfolding settle
-returns-in-At c b has =
-    let a = c.args in
-    ap (placed_on b (with_channel b a.n a.new))
-    (c.in-At.ensures
-    ∙ ap (λ e. place_event e a.events.now a.place) (c.level_event-event.ensures ∙ ap (λ (d : Channel). level_event a.n d a.new) (sym has)))
+pub returns-in_err-at : goal.returns-in_err-at
+returns-in_err-at c b has =
+    let p = err_from_is_err_and c.from_residual.result c.from_residual.ensures.1 in
+    rw (p.1, p.2)
+    (settle-refused b c.args.n c.args.c.now c.args.new has _ c.level_event-event.ensures c.args.events.now c.args.place c.in_err-at.field-0.0 c.place_event.new.events c.in_err-at.ensures)
 
-pub returns-in-Refused : goal.returns-in-Refused
-unfolding settle
-returns-in-Refused c b has =
-    let a = c.args in
-    own-refused b _ _ has _ _
-    ∙ ap (placed_on b (with_channel b a.n a.new))
-    (c.in-Refused.ensures
-    ∙ ap (λ e. place_event e a.events.now a.place) (c.level_event-event.ensures ∙ ap (λ (d : Channel). level_event a.n d a.new) (sym has)))
+pub returns : goal.returns
+returns c b has =
+    settle-placed b c.args.n c.args.c.now c.args.new has _ c.level_event-event.ensures c.args.events.now c.args.place c.in_ok-at.at c.place_event.new.events c.in_ok-at.ensures

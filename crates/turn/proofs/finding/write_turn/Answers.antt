@@ -1,11 +1,13 @@
-use Rattle.std.proofs.Common.{refl, sym, arith}
+use Rattle.std.proofs.Common.{◌≡◌, ◌∙◌, Some, ap, refl, sym, arith}
+use Rattle.ports.specs.declared.port.Port.TheVariants.{Data}
+use Rattle.ports.specs.Port.{port_of}
 use Rattle.ports.proofs.Below.{data-below}
 use Rattle.turn.proofs.finding.write_turn.Goals as goal
 
 pub overflow_cast-result : goal.overflow_cast-result
-overflow_cast-result c = omega (arith, data-below _ _ (sym c.in-Data.ensures))
+overflow_cast-result c = omega (arith, data-below _ _ (sym c.in-Some.ensures ∙ ap Some c.in-Data.is))
 
-pub returns-else-owing : goal.returns-else-owing
-returns-else-owing c =
-    let is = sym c.in-Data.ensures in
+pub returns-in-Data : goal.returns-in-Data
+returns-in-Data c =
+    let is : port_of c.args.port ≡ Some (Data c.in-Data.n) = sym c.in-Some.ensures ∙ ap Some c.in-Data.is in
     rw (c.if-owing.false, is) (refl, data-below _ _ is)
