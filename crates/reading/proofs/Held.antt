@@ -21,7 +21,8 @@ use Rattle.control.specs.Control.{names, command_of}
 use Rattle.latch.specs.declared.label.Label.{Label}
 use Rattle.latch.specs.Latching.{latch_count}
 use Rattle.latch.specs.Reading.{read_byte}
-use Rattle.latch.specs.declared.label.WhichHalf.TheVariants.{Low, High, Neither}
+use Rattle.latch.specs.declared.reading.Half.{Half}
+use Rattle.latch.specs.declared.reading.Half.TheVariants.{Low, High}
 use Rattle.latch.specs.declared.reading.ByteRead.{ByteRead}
 use Rattle.latch.specs.Status.{no_status}
 use Rattle.latch.specs.ReadBack.{read_back}
@@ -39,6 +40,7 @@ use Rattle.board.specs.Outcome.{Outcome, Value}
 use Rattle.board.proofs.Channels.{put-found, not-above}
 use Rattle.ports.specs.declared.port.Port.{Port}
 use Rattle.ports.specs.declared.port.Port.TheVariants as port
+use Rattle.std.specs.Prelude.{Option, Some, None}
 use Rattle.ports.specs.Port.{port_of}
 use Rattle.ports.specs.Reads.{read_from, read_port}
 use Rattle.ports.proofs.Below.{command-port}
@@ -65,10 +67,10 @@ use Rattle.reading.proofs.Beginnings.{reset-begins}
 use Rattle.reading.proofs.Promise.{reads-the-count}
 
 -- neither half of a count
-low-not-neither : Low ≡ Neither → ⊥
+low-not-neither : ◌≡◌ {A = Option Half} (Some Low) None → ⊥
 low-not-neither e = let z : ◌≡◌ {A = ℕ} 0 1 = cc in omega arith
 
-high-not-neither : High ≡ Neither → ⊥
+high-not-neither : ◌≡◌ {A = Option Half} (Some High) None → ⊥
 high-not-neither e = let z : ◌≡◌ {A = ℕ} 0 1 = cc in omega arith
 
 held-now : (b : Board) (i : ℕ) (os : List Operation) (count : ℕ) → HeldOver b i os count → IsHeld b i count
@@ -176,16 +178,16 @@ module _ (b : Board) (three : length b.channels ≡ 3) (i : ℕ) (on : i < 3) wh
     write-before : (number x : ℕ) (events : List ℕ) (place : ℕ) → IsAccepted b (WritePort number x events place) → Before (WritePort number x events place)
     write-before number x events place took = written (port_of number) refl
       where
-        written : (p : Port) → port_of number ≡ p → Before (WritePort number x events place)
-        written (port.Data n) e = left (WritePort number x events place) (inl (subst (λ (q : Port). MayWrite b.model i q x) (sym e) tt)) took
-        written port.Unknown e = left (WritePort number x events place) (inl (subst (λ (q : Port). MayWrite b.model i q x) (sym e) tt)) took
-        written port.Command e =
+        written : (p : Option Port) → port_of number ≡ p → Before (WritePort number x events place)
+        written (Some (port.Data n)) e = left (WritePort number x events place) (inl (subst (λ (q : Option Port). MayWrite b.model i q x) (sym e) tt)) took
+        written None e = left (WritePort number x events place) (inl (subst (λ (q : Option Port). MayWrite b.model i q x) (sym e) tt)) took
+        written (Some port.Command) e =
             subst (λ (m : ℕ). IsAccepted b (WritePort m x events place) → Before (WritePort m x events place)) (sym (command-port number e))
             (command-before x events place (command_of b.model x) refl)
             took
 
     -- a read after which the channel is latched was of a held status, or the first of a word, and left the latch
-    read-before : (number : ℕ) → port_of number ≡ port.Data i → Before (ReadPort number)
+    read-before : (number : ℕ) → port_of number ≡ Some (port.Data i) → Before (ReadPort number)
     unfolding read_port
     read-before number e h =
         let c = channel_at b i in
@@ -201,12 +203,12 @@ module _ (b : Board) (three : length b.channels ≡ 3) (i : ℕ) (on : i < 3) wh
     port-before : (number : ℕ) → IsAccepted b (ReadPort number) → Before (ReadPort number)
     port-before number took = asked (port_of number) refl
       where
-        asked : (p : Port) → port_of number ≡ p → Before (ReadPort number)
-        asked (port.Data n) e =
-            by-same i n (Before (ReadPort number)) (λ same. read-before number (e ∙ ap port.Data same))
-            (λ other. left (ReadPort number) (inl (λ touches. other (subst (λ (q : Port). ReadTouches q i) e touches))) took)
-        asked port.Command e = left (ReadPort number) (inl (λ touches. subst (λ (q : Port). ReadTouches q i) e touches)) took
-        asked port.Unknown e = left (ReadPort number) (inl (λ touches. subst (λ (q : Port). ReadTouches q i) e touches)) took
+        asked : (p : Option Port) → port_of number ≡ p → Before (ReadPort number)
+        asked (Some (port.Data n)) e =
+            by-same i n (Before (ReadPort number)) (λ same. read-before number (e ∙ ap (λ (m : ℕ). Some (port.Data m)) same))
+            (λ other. left (ReadPort number) (inl (λ touches. other (subst (λ (q : Option Port). ReadTouches q i) e touches))) took)
+        asked (Some port.Command) e = left (ReadPort number) (inl (λ touches. subst (λ (q : Option Port). ReadTouches q i) e touches)) took
+        asked None e = left (ReadPort number) (inl (λ touches. subst (λ (q : Option Port). ReadTouches q i) e touches)) took
 
     before : (o : Operation) → IsAccepted b o → Before o
     before (WritePort number x events place) took = write-before number x events place took
@@ -289,7 +291,7 @@ says-its-half b i on three none x label says =
     let c = channel_at b i in
     let said = read-said b i on x label says in
     record {
-      low_or_high = subst (λ (l : Label). l.half ≡ Neither → ⊥) said.1 (low_or_high c none);
+      low_or_high = subst (λ (l : Label). l.half ≡ None → ⊥) said.1 (low_or_high c none);
       half =
           subst (λ (l : Label). IsHalf l.half x c.latch.output_latch) said.1
           (subst (λ (y : ℕ). IsHalf (label_of c).half y c.latch.output_latch) said.0 (label-half c c.latch.output_latch));
@@ -388,7 +390,7 @@ reading-is-held b i bcd v calls reading =
 
 -- what the next read of a held channel says
 held-is-said : (b : Board) (i : ℕ) → i < 3 → (count : ℕ) → IsHeld b i count → no_status (channel_at b i) ≡ true
-    → (x : ℕ) × (label : Label) × Says x label (step b (read_of i)).reply × (label.held ≡ true) × (label.half ≡ Neither → ⊥) × IsHalf label.half x count
+    → (x : ℕ) × (label : Label) × Says x label (step b (read_of i)).reply × (label.held ≡ true) × (label.half ≡ None → ⊥) × IsHalf label.half x count
 held-is-said b i on count h none =
     let c = channel_at b i in (
       (read_byte c).byte,

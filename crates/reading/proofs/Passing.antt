@@ -23,7 +23,8 @@ use Rattle.board.specs.Outcome.{Outcome, Value, on_channel, unless_owed}
 use Rattle.board.specs.Counting.{counts}
 use Rattle.board.specs.Queries.{is_dirty}
 use Rattle.ports.specs.declared.port.Port.{Port}
-use Rattle.ports.specs.declared.port.Port.TheVariants.{Data, Command, Unknown}
+use Rattle.ports.specs.declared.port.Port.TheVariants.{Data, Command}
+use Rattle.std.specs.Prelude.{Option, Some, None}
 use Rattle.ports.specs.Port.{port_of}
 use Rattle.ports.specs.Settle.{settle}
 use Rattle.ports.proofs.Settling.{settle-holds}
@@ -79,15 +80,15 @@ module _ (b : Board) (three : length b.channels ≡ 3) (i : ℕ) (on : i < 3) wh
   on-channel : (events : List ℕ) (outcome : Outcome) → After 0 outcome → After 0 (on_channel b i events outcome)
   on-channel events outcome p = by-channel (After 0) b i events outcome (counted_none (channel_at b i)) (λ on. p)
 
-  write-passes : (port : Port) (byte : ℕ) (events : List ℕ) (place : ℕ) → MayWrite b.model i port byte → After 0 (write_to b port byte events place)
-  write-passes (Data n) byte events place may =
-      by-same i n (After 0 (write_to b (Data n) byte events place))
+  write-passes : (port : Option Port) (byte : ℕ) (events : List ℕ) (place : ℕ) → MayWrite b.model i port byte → After 0 (write_to b port byte events place)
+  write-passes (Some (Data n)) byte events place may =
+      by-same i n (After 0 (write_to b (Some (Data n)) byte events place))
       (λ same.
-      subst (λ (m : ℕ). After 0 (write_to b (Data m) byte events place)) (sym same)
+      subst (λ (m : ℕ). After 0 (write_to b (Some (Data m)) byte events place)) (sym same)
       (settled (write_byte (channel_at b i) byte b.defer) events place (counted-kept (write_keeps (channel_at b i) byte b.defer))))
-      (λ other. stays-counted (write_to b (Data n) byte events place) (write-stays b i (Data n) byte events place other))
-  write-passes Command byte events place may = stays-counted (write_to b Command byte events place) (write-stays b i Command byte events place may)
-  write-passes Unknown byte events place may = stays-counted (write_to b Unknown byte events place) (write-stays b i Unknown byte events place (λ none. none))
+      (λ other. stays-counted (write_to b (Some (Data n)) byte events place) (write-stays b i (Some (Data n)) byte events place other))
+  write-passes (Some Command) byte events place may = stays-counted (write_to b (Some Command) byte events place) (write-stays b i (Some Command) byte events place may)
+  write-passes None byte events place may = stays-counted (write_to b None byte events place) (write-stays b i None byte events place (λ none. none))
 
   gate-passes : (n : ℕ) (level : Bool) (events : List ℕ) (place : ℕ) → After 0 (set_channel_gate b n level events place)
   unfolding set_channel_gate

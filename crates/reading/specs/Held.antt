@@ -1,13 +1,12 @@
 -- Document 02, L3, what the two words of a read are worth. The byte is the half that they say, or with `none held` the held status (L5). A half that is held is of the count that
 -- one latch took; and two reads of one channel, the first `low held` and the second `high held`, with no command for it, reset or other read of it between them, give both halves of
 -- one such count. And a latch makes the next read say `held`. Proved in proofs/Held.antt; docs/READING.md says it in words.
-use Rattle.std.specs.Prelude.{ℕ, ◌/◌, ◌%◌, ◌<◌, Bool, true, false, List, [], ◌∷◌, ◌++◌, ◌⊎◌, ◌≡◌, length}
+use Rattle.std.specs.Prelude.{ℕ, ◌/◌, ◌%◌, ◌<◌, Bool, true, false, List, [], ◌∷◌, ◌++◌, ◌⊎◌, ◌≡◌, length, None}
 use Rattle.channel.specs.declared.PitType.{PitType}
 use Rattle.control.specs.declared.Command.{Command}
 use Rattle.control.specs.declared.Command.TheVariants.{Nothing, LatchCount, SetMode, ReadBack}
 use Rattle.control.specs.Control.{names, command_of}
 use Rattle.latch.specs.declared.label.Label.{Label}
-use Rattle.latch.specs.declared.label.WhichHalf.TheVariants.{Neither}
 use Rattle.latch.specs.Status.{no_status}
 use Rattle.latch.specs.Label.{IsHalf, with_value}
 use Rattle.board.specs.declared.Board.{Board}
@@ -26,7 +25,7 @@ with_output_latch b i v = with_channel b i (with_value (channel_at b i) v)
 -- "low or high half", where no status is held: what an accepted read of a data port says does not go by the value read, and the byte is that half of it, whatever it is; "and whether the channel
 -- was latched just before"
 pub record SaysOf (b : Board) (i x : ℕ) (label : Label) : Type 0 where
-  pub low_or_high : label.half ≡ Neither → ⊥
+  pub low_or_high : label.half ≡ None → ⊥
   pub half : IsHalf label.half x (channel_at b i).latch.output_latch
   pub mark : label.held ≡ (channel_at b i).latch.count_is_latched
   pub of-any-value : (v : ℕ) → (y : ℕ) × IsHalf label.half y v × Says y label (step (with_output_latch b i v) (read_of i)).reply
@@ -38,7 +37,7 @@ SaysItsHalf =
 
 -- L5: "A held status is read first, once .. L3's words for it are `none held`": it is what is read, no status is held after that, and a count that is held or half read stands
 pub record SaysStatus (b : Board) (i x : ℕ) (label : Label) : Type 0 where
-  pub none-held : label ≡ record { half = Neither; held = true }
+  pub none-held : label ≡ record { half = None; held = true }
   pub status : x ≡ (channel_at b i).status.status_latch
   pub once : no_status (channel_at (step b (read_of i)).board i) ≡ true
   pub undisturbed : (channel_at (step b (read_of i)).board i).latch ≡ (channel_at b i).latch
@@ -50,7 +49,7 @@ StatusIsSaid =
 
 -- "and the command port prints `read 00 none live`", whatever is latched
 abbrev pub CommandSaysNothing : Type 0
-CommandSaysNothing = (b : Board) → Says 0 (record { half = Neither; held = false }) (step b (ReadPort 0x43)).reply
+CommandSaysNothing = (b : Board) → Says 0 (record { half = None; held = false }) (step b (ReadPort 0x43)).reply
 
 -- a command that asks for the count of channel i: its latch command, or a read-back that names it and asks for counts, which takes none where one is held
 abbrev pub TakesCount : Command → ℕ → Type 0
@@ -104,7 +103,7 @@ HeldByte =
     (b : Board) (i : ℕ) → i < 3 → length b.channels ≡ 3 → (calls : List Operation) (x : ℕ) (label : Label)
     → Says x label (step (steps b calls) (read_of i)).reply
     → label.held ≡ true
-    → (label.half ≡ Neither → ⊥)
+    → (label.half ≡ None → ⊥)
     → (count : ℕ) × IsHalf label.half x count × OfOneLatch b i calls count
 
 -- no command for channel i, no reset and no read of it: what may pass during a reading, and a load cycle, which a held count does not see
@@ -149,7 +148,7 @@ LiveThenHeld =
     (b : Board) (i : ℕ) → i < 3 → length b.channels ≡ 3 → (x : ℕ) (first : Label) → Says x first (step b (read_of i)).reply → first.held ≡ false
     → (between : List Operation) (y : ℕ) (second : Label) → Says y second (step (steps (step b (read_of i)).board between) (read_of i)).reply
     → second.held ≡ true
-    → (second.half ≡ Neither → ⊥)
+    → (second.half ≡ None → ⊥)
     → (count : ℕ) × IsHalf second.half y count × TakenBy (step b (read_of i)).board i between count
 
 -- And the other way: after an accepted latch of a channel with no status held, and calls that leave it, the next read says `held`, in any access, and its byte is of the count that
@@ -162,5 +161,5 @@ LatchIsSaid =
     → (x : ℕ) × (label : Label)
     × Says x label (step (steps (step b (control_write byte events place)).board between) (read_of i)).reply
     × (label.held ≡ true)
-    × (label.half ≡ Neither → ⊥)
+    × (label.half ≡ None → ⊥)
     × IsHalf label.half x (channel_at b i).counter.counting_element

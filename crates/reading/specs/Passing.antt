@@ -1,6 +1,6 @@
 -- Demand 3, what may come between the steps of a reading: "further counts after the latch, gate changes, data writes to it, and anything on the other channels; no
 -- other command, load cycle, read or reset touches it."; and by 02, L1, ticks worked off: before the latch none that loads the channel, after it any.
-use Rattle.std.specs.Prelude.{ℕ, ◌<◌, false, List, [], ◌∷◌, ◌≡◌}
+use Rattle.std.specs.Prelude.{ℕ, ◌<◌, false, List, [], ◌∷◌, ◌≡◌, Option, Some, None}
 use Rattle.numbers.specs.Times.{times}
 use Rattle.channel.specs.declared.PitType.{PitType}
 use Rattle.control.specs.Control.{command_of}
@@ -18,10 +18,10 @@ use Rattle.reading.specs.Counts.{ticks_made}
 
 -- a data byte to any channel; a control byte that neither latches channel i, nor sets its mode, nor reads it back, on a board of a model. (An unknown port is refused, so no accepted
 -- call is one.)
-abbrev pub MayWrite : PitType → ℕ → Port → ℕ → Type 0
-MayWrite model i (port.Data n) byte = Unit
-MayWrite model i port.Command byte = CommandTouches (command_of model byte) i → ⊥
-MayWrite model i port.Unknown byte = Unit
+abbrev pub MayWrite : PitType → ℕ → Option Port → ℕ → Type 0
+MayWrite model i (Some (port.Data n)) byte = Unit
+MayWrite model i (Some port.Command) byte = CommandTouches (command_of model byte) i → ⊥
+MayWrite model i None byte = Unit
 
 -- what an accepted call may do on the board while channel i is being read; of a refused one nothing is asked (`Reading`)
 abbrev pub MayPass : PitType → ℕ → Operation → Type 0

@@ -1,11 +1,11 @@
 -- The count of a channel in one call: latched, and read low byte then high, where demand 3's reading may begin.
-use Rattle.std.specs.Prelude.{ℕ, cond, eqb, ltb}
+use Rattle.std.specs.Prelude.{ℕ, cond, eqb, ltb, Result, Ok, Err}
 use Rattle.refusal.specs.Reply.{Reply, refused, accepted}
 use Rattle.refusal.specs.Refusal.{refusal_number}
 use Rattle.board.specs.declared.Board.{Board}
 use Rattle.board.specs.Board.{channel_at, with_channel}
-use Rattle.reading.specs.declared.CountAnswer.{CountAnswer}
-use Rattle.reading.specs.declared.CountAnswer.TheVariants.{Refused, NotReadable, Count}
+use Rattle.reading.specs.declared.CountError.{CountError}
+use Rattle.reading.specs.declared.CountError.TheVariants.{Refused, NotReadable}
 use Rattle.reading.specs.declared.CountAnswered.{CountAnswered}
 use Rattle.reading.specs.Beginning.{may_begin}
 use Rattle.reading.specs.Word.{read_word}
@@ -16,10 +16,13 @@ pub record CountOutcome : Type 0 where
   pub board : Board
 
 -- document 01's number and value for each answer. For a channel that a reading may not begin on it has no number: docs/DECISIONS.md 41
-abbrev pub count_reply : CountAnswer → Reply ℕ
-count_reply (Refused refusal) = refused (refusal_number refusal)
-count_reply NotReadable = refused 201
-count_reply (Count e) = accepted e
+abbrev pub error_number : CountError → ℕ
+error_number (Refused refusal) = refusal_number refusal
+error_number NotReadable = 201
+
+abbrev pub count_reply : Result ℕ CountError → Reply ℕ
+count_reply (Ok e) = accepted e
+count_reply (Err error) = refused (error_number error)
 
 abbrev pub count_outcome : CountAnswered → CountOutcome
 count_outcome r = record { reply = count_reply r.answer; board = r.board }

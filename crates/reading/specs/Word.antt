@@ -4,7 +4,11 @@ use Rattle.channel.specs.declared.Channel.{Channel}
 use Rattle.latch.specs.declared.reading.ByteRead.{ByteRead}
 use Rattle.latch.specs.Latching.{latch_count}
 use Rattle.latch.specs.Reading.{read_byte}
-use Rattle.reading.specs.declared.WordRead.{WordRead}
+
+-- the two bytes as a number, and the record as the reads leave it
+pub record WordRead : Type 0 where
+  pub word : ℕ
+  pub channel : Channel
 
 -- two bytes as one number, the low byte first
 abbrev pub word : ℕ → ℕ → ℕ

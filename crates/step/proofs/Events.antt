@@ -21,7 +21,7 @@ use Rattle.control.specs.Control.{command_of}
 use Rattle.control.proofs.Named.{named-below}
 use Rattle.latch.proofs.ReadBacks.{read-back-keeps}
 use Rattle.event.specs.declared.Event.{Event}
-use Rattle.event.specs.declared.Event.TheVariants.{Unchanged, Level}
+use Rattle.std.specs.Prelude.{Option, Some, None}
 use Rattle.event.specs.Event.{Placing, event_of, level_event, place_event}
 use Rattle.event.specs.Written.{Written}
 use Rattle.event.proofs.Room.{by-unchanged, by_level}
@@ -31,7 +31,7 @@ use Rattle.board.specs.Board.{channel_at, with_channel}
 use Rattle.board.proofs.Channels.{put-found, put_other}
 use Rattle.board.specs.Outcome.{Outcome, Value, done, new_place, refuse, unless_owed}
 use Rattle.ports.specs.declared.port.Port.{Port}
-use Rattle.ports.specs.declared.port.Port.TheVariants.{Data, Command as CommandPort, Unknown}
+use Rattle.ports.specs.declared.port.Port.TheVariants.{Data, Command as CommandPort}
 use Rattle.ports.specs.Port.{port_of}
 use Rattle.ports.proofs.Below.{data-below}
 use Rattle.ports.specs.Settle.{call_reply, board_after, placed_on, settle, untouched}
@@ -52,24 +52,28 @@ abbrev value_in : Reply Value → Value
 value_in (refused number) = done
 value_in (accepted value) = value
 
--- the event writer's part: the new place, the bytes, and the new board taken
-abbrev PlacedAs : Event → List ℕ → ℕ → ℕ → Placing → Type 0
-PlacedAs Unchanged events place new placing = (new ≡ place) × (placing.bytes ≡ events) × ((b c : Board) → board_after placing.reply b c ≡ c)
-PlacedAs (Level n level) events place new placing =
-    (new ≡ place + 2) × Written events placing.bytes place n level × ((b c : Board) → board_after placing.reply b c ≡ c)
+-- the event that sets a level
+abbrev level_set : ℕ → Bool → Option Event
+level_set n level = Some (record { channel = n; level = level })
 
-placed : (events : List ℕ) (place new : ℕ) (event : Event) → call_reply (place_event event events place).reply ≡ accepted (new_place new)
+-- the event writer's part: the new place, the bytes, and the new board taken
+abbrev PlacedAs : Option Event → List ℕ → ℕ → ℕ → Placing → Type 0
+PlacedAs None events place new placing = (new ≡ place) × (placing.bytes ≡ events) × ((b c : Board) → board_after placing.reply b c ≡ c)
+PlacedAs (Some event) events place new placing =
+    (new ≡ place + 2) × Written events placing.bytes place event.channel event.level × ((b c : Board) → board_after placing.reply b c ≡ c)
+
+placed : (events : List ℕ) (place new : ℕ) (event : Option Event) → call_reply (place_event event events place).reply ≡ accepted (new_place new)
     → PlacedAs event events place new (place_event event events place)
-placed events place new Unchanged =
-    by-unchanged events place (λ (p : Placing). call_reply p.reply ≡ accepted (new_place new) → PlacedAs Unchanged events place new p)
+placed events place new None =
+    by-unchanged events place (λ (p : Placing). call_reply p.reply ≡ accepted (new_place new) → PlacedAs None events place new p)
     (λ past e. absurd (refused-not 7 (new_place new) e))
     (λ inside e. (sym (ap (λ (r : Reply Value). (amounts_in (value_in r)).place) e), refl, λ b c. refl))
-placed events place new (Level n level) =
-    by_level events place (λ (p : Placing). call_reply p.reply ≡ accepted (new_place new) → PlacedAs (Level n level) events place new p)
+placed events place new (Some event) =
+    by_level events place (λ (p : Placing). call_reply p.reply ≡ accepted (new_place new) → PlacedAs (Some event) events place new p)
     (λ past e. absurd (refused-not 7 (new_place new) e))
-    n level
+    event.channel event.level
     (λ inside few e. absurd (refused-not 8 (new_place new) e))
-    (λ room e. (sym (ap (λ (r : Reply Value). (amounts_in (value_in r)).place) e), event-written n level events place room, λ b c. refl))
+    (λ room e. (sym (ap (λ (r : Reply Value). (amounts_in (value_in r)).place) e), event-written event.channel event.level events place room, λ b c. refl))
 
 -- a channel put at a place of the board: its level there, and the levels elsewhere
 module _ (b : Board) (three : length b.channels ≡ 3) (n : ℕ) (on : n < 3) (c : Channel) where
@@ -87,29 +91,29 @@ module _ (b : Board) (three : length b.channels ≡ 3) (n : ℕ) (on : n < 3) (c
       go false e = level-elsewhere m (eqb-false m n e)
 
   module _ (events : List ℕ) (place new : ℕ) where
-    abbrev after : Event → Outcome
+    abbrev after : Option Event → Outcome
     after event = placed_on b (with_channel b n c) (place_event event events place)
 
-    silent : c.pins.output ≡ level_at b n → (after Unchanged).reply ≡ accepted (new_place new) → NoEvent b events place (after Unchanged) new
+    silent : c.pins.output ≡ level_at b n → (after None).reply ≡ accepted (new_place new) → NoEvent b events place (after None) new
     silent same e =
-        let p = placed events place new Unchanged e in
+        let p = placed events place new None e in
         record {
           same_place = p.0;
           same-bytes = p.1;
           same-levels = λ m. ap (λ (x : Board). level_at x m) (p.2 b (with_channel b n c)) ∙ all-stand same m;
         }
 
-    told : (level : Bool) → c.pins.output ≡ level → (level_at b n ≡ level → ⊥) → (after (Level n level)).reply ≡ accepted (new_place new)
-        → OneEvent b events place (after (Level n level)) new
+    told : (level : Bool) → c.pins.output ≡ level → (level_at b n ≡ level → ⊥) → (after (level_set n level)).reply ≡ accepted (new_place new)
+        → OneEvent b events place (after (level_set n level)) new
     told level is differs e =
-        let p = placed events place new (Level n level) e in
-        let stands : (m : ℕ) → level_at (after (Level n level)).board m ≡ level_at (with_channel b n c) m = λ m. ap (λ (x : Board). level_at x m) (p.2 b (with_channel b n c)) in
-        let now : level_at (after (Level n level)).board n ≡ level = stands n ∙ level-there ∙ is in
+        let p = placed events place new (level_set n level) e in
+        let stands : (m : ℕ) → level_at (after (level_set n level)).board m ≡ level_at (with_channel b n c) m = λ m. ap (λ (x : Board). level_at x m) (p.2 b (with_channel b n c)) in
+        let now : level_at (after (level_set n level)).board n ≡ level = stands n ∙ level-there ∙ is in
         record {
           channel = n;
           on-board = on;
           next_place = p.0;
-          written = subst (λ l. Written events (after (Level n level)).events place n l) (sym now) p.1;
+          written = subst (λ l. Written events (after (level_set n level)).events place n l) (sym now) p.1;
           changed = λ same. differs (same ∙ now);
           others-stand = λ m other. stands m ∙ level-elsewhere m other;
         }
@@ -142,8 +146,8 @@ module _ (b : Board) (three : length b.channels ≡ 3) (events : List ℕ) (plac
   untouched-told : (untouched b events place).reply ≡ accepted value → ToldBy b events place (untouched b events place) value
   unfolding untouched
   untouched-told e =
-      let a = answers (place_event Unchanged events place).reply value e in
-      let p = placed events place a.0 Unchanged (e ∙ ap accepted a.1) in (
+      let a = answers (place_event None events place).reply value e in
+      let p = placed events place a.0 None (e ∙ ap accepted a.1) in (
         a.0,
         a.1,
         inl (record { same_place = p.0; same-bytes = p.1; same-levels = λ m. ap (λ (x : Board). level_at x m) (p.2 b b) }),
@@ -152,8 +156,8 @@ module _ (b : Board) (three : length b.channels ≡ 3) (events : List ℕ) (plac
   read-back-told : (word : ReadBackWord) → (read_back_write b word events place).reply ≡ accepted value
       → ToldBy b events place (read_back_write b word events place) value
   read-back-told word e =
-      let a = answers (place_event Unchanged events place).reply value e in
-      let p = placed events place a.0 Unchanged (e ∙ ap accepted a.1) in
+      let a = answers (place_event None events place).reply value e in
+      let p = placed events place a.0 None (e ∙ ap accepted a.1) in
       let stands : (m : ℕ) → level_at (read_backs word b) m ≡ level_at b m =
       kept-everywhere b word three (λ (c : Channel). c.pins.output)
       (λ counts status c. ap (λ (q : Pins). q.output) (read-back-keeps counts status c).pins-stay) in (
@@ -176,11 +180,11 @@ module _ (b : Board) (three : length b.channels ≡ 3) (events : List ℕ) (plac
   command-told x small (SetMode n word) is e = settled-told n (named-below b.model x small (SetMode n word) is) _ e
   command-told x small (ReadBack word) is e = read-back-told word e
 
-  port-told : (number x : ℕ) → x < 256 → (port : Port) → port_of number ≡ port → (write_to b port x events place).reply ≡ accepted value
+  port-told : (number x : ℕ) → x < 256 → (port : Option Port) → port_of number ≡ port → (write_to b port x events place).reply ≡ accepted value
       → ToldBy b events place (write_to b port x events place) value
-  port-told number x small (Data n) is e = owing-told _ (settled-told n (data-below number n is) _) e
-  port-told number x small CommandPort is e = owing-told _ (command-told x small (command_of b.model x) refl) e
-  port-told number x small Unknown is e = absurd (refused-not 1 value e)
+  port-told number x small (Some (Data n)) is e = owing-told _ (settled-told n (data-below number n is) _) e
+  port-told number x small (Some CommandPort) is e = owing-told _ (command-told x small (command_of b.model x) refl) e
+  port-told number x small None is e = absurd (refused-not 1 value e)
 
   pub write-told : (port x : ℕ) → x < 256 → (step b (WritePort port x events place)).reply ≡ accepted value
       → ToldBy b events place (step b (WritePort port x events place)) value

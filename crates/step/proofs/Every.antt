@@ -15,7 +15,7 @@ use Rattle.control.specs.declared.Command.{Command}
 use Rattle.control.specs.declared.Command.TheVariants.{Nothing, LatchCount, SetMode, ReadBack}
 use Rattle.control.specs.Control.{command_of}
 use Rattle.event.specs.declared.Event.{Event}
-use Rattle.event.specs.declared.Event.TheVariants.{Unchanged, Level}
+use Rattle.std.specs.Prelude.{Option, Some, None}
 use Rattle.event.specs.Event.{Placing, place_event}
 use Rattle.event.proofs.Room.{by-unchanged, by_level}
 use Rattle.event.proofs.Written.{event-written}
@@ -30,7 +30,7 @@ use Rattle.board.specs.Queries.{get_output_state, get_channel_count, does_channe
 use Rattle.clock.specs.Clock.{elapsed, yielding, timely, catch_up, run}
 use Rattle.clock.proofs.Tests.{by-time}
 use Rattle.ports.specs.declared.port.Port.{Port}
-use Rattle.ports.specs.declared.port.Port.TheVariants.{Data, Command as CommandPort, Unknown}
+use Rattle.ports.specs.declared.port.Port.TheVariants.{Data, Command as CommandPort}
 use Rattle.ports.specs.Port.{port_of}
 use Rattle.ports.specs.Settle.{placed_on, settle, untouched}
 use Rattle.ports.specs.ReadBacks.{read_backs}
@@ -77,38 +77,38 @@ module _ (b : Board) (P : List ℕ → ℕ → Outcome → Type 0)
     owing-every : (events : List ℕ) (outcome : Outcome) → P events 0 outcome → P events 0 (unless_owed b events outcome)
     owing-every events outcome holds = by-owed (P events 0) b events outcome (λ owes. refuses events 16) (λ none. holds)
 
-    event-every : (event : Event) (channels : List Channel) (events : List ℕ) (place : ℕ) → (length b.channels ≡ 3 → length channels ≡ 3)
+    event-every : (event : Option Event) (channels : List Channel) (events : List ℕ) (place : ℕ) → (length b.channels ≡ 3 → length channels ≡ 3)
         → P events 0 (placed_on b (with_channels b channels) (place_event event events place))
-    event-every Unchanged channels events place three =
+    event-every None channels events place three =
         by-unchanged events place (λ (p : Placing). P events 0 (placed_on b (with_channels b channels) p)) (λ past. refuses events 7)
         (λ inside. accepts events events (new_place place) channels (refl, refl) refl three)
-    event-every (Level n level) channels events place three =
-        by_level events place (λ (p : Placing). P events 0 (placed_on b (with_channels b channels) p)) (λ past. refuses events 7) n level
+    event-every (Some event) channels events place three =
+        by_level events place (λ (p : Placing). P events 0 (placed_on b (with_channels b channels) p)) (λ past. refuses events 7) event.channel event.level
         (λ inside few. refuses events 8)
-        (λ room. accepts events _ (new_place (place + 2)) channels (refl, refl) (event-written n level events place room).same_length three)
+        (λ room. accepts events _ (new_place (place + 2)) channels (refl, refl) (event-written event.channel event.level events place room).same_length three)
 
     command-every : (command : Command) (events : List ℕ) (place : ℕ) → P events 0 (control_register_write b command events place)
     unfolding settle untouched read_backs
     command-every Nothing events place = event-every _ b.channels events place (λ three. three)
     command-every (LatchCount n) events place = event-every _ _ events place (put_three n _)
     command-every (SetMode n word) events place = event-every _ _ events place (put_three n _)
-    command-every (ReadBack word) events place = event-every Unchanged (read_backs word b).channels events place (three-left b word)
+    command-every (ReadBack word) events place = event-every None (read_backs word b).channels events place (three-left b word)
 
-    write-every : (port : Port) (byte : ℕ) (events : List ℕ) (place : ℕ) → P events 0 (write_to b port byte events place)
+    write-every : (port : Option Port) (byte : ℕ) (events : List ℕ) (place : ℕ) → P events 0 (write_to b port byte events place)
     unfolding settle
-    write-every (Data n) byte events place = owing-every events _ (event-every _ _ events place (put_three n _))
-    write-every CommandPort byte events place = owing-every events _ (command-every (command_of b.model byte) events place)
-    write-every Unknown byte events place = refuses events 1
+    write-every (Some (Data n)) byte events place = owing-every events _ (event-every _ _ events place (put_three n _))
+    write-every (Some CommandPort) byte events place = owing-every events _ (command-every (command_of b.model byte) events place)
+    write-every None byte events place = refuses events 1
 
     gate-every : (n : ℕ) (level : Bool) (events : List ℕ) (place : ℕ) → P events 0 (set_channel_gate b n level events place)
     unfolding set_channel_gate settle
     gate-every n level events place =
         by-channel (P events 0) b n events _ (refuses events 2) (λ on. owing-every events _ (event-every _ _ events place (put_three n _)))
 
-    read-every : (port : Port) → P [] 0 (read_from b port)
-    read-every (Data n) = accepts [] [] _ _ (refl, refl) refl (put_three n _)
-    read-every CommandPort = accepts [] [] _ b.channels (refl, refl) refl (λ three. three)
-    read-every Unknown = refuses [] 1
+    read-every : (port : Option Port) → P [] 0 (read_from b port)
+    read-every (Some (Data n)) = accepts [] [] _ _ (refl, refl) refl (put_three n _)
+    read-every (Some CommandPort) = accepts [] [] _ b.channels (refl, refl) refl (λ three. three)
+    read-every None = refuses [] 1
 
     reset-every : P [] 0 (reset b)
     unfolding reset restored

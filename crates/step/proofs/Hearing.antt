@@ -40,7 +40,8 @@ use Rattle.owed.specs.BoardTick.{board_tick}
 use Rattle.owed.specs.Worked.{work_off}
 use Rattle.owed.proofs.Nth.{next-tick}
 use Rattle.ports.specs.declared.port.Port.{Port}
-use Rattle.ports.specs.declared.port.Port.TheVariants.{Data, Command as CommandPort, Unknown}
+use Rattle.ports.specs.declared.port.Port.TheVariants.{Data, Command as CommandPort}
+use Rattle.std.specs.Prelude.{Option, Some, None}
 use Rattle.ports.specs.Port.{port_of}
 use Rattle.ports.specs.Settle.{settle}
 use Rattle.ports.specs.ReadBacks.{read_back_at, read_back_write}
@@ -187,46 +188,46 @@ module _ {G : Type 0} (l : Listener G) (b : Board) (R : G → Channel → Type 0
       (λ none. read-backs-hold b events place word (Then g) now (subst (R g) (sym (each_read b word three i on)) back))
 
   -- a byte to a port
-  abbrev WriteThen : ℕ → ℕ → List ℕ → ℕ → Value → Port → Type 0
+  abbrev WriteThen : ℕ → ℕ → List ℕ → ℕ → Value → Option Port → Type 0
   WriteThen port byte events place value p = (write_to b p byte events place).reply ≡ accepted value → Then (on_port l i b port byte g) (write_to b p byte events place).board
 
   data-turn : (n byte : ℕ) (events : List ℕ) (place : ℕ) (value : Value) → l.heeds byte → n ≡ i
-      → (write_to b (Data n) byte events place).reply ≡ accepted value
-      → Then (l.on-byte b.model (channel_at b i) byte b.defer g) (write_to b (Data n) byte events place).board
+      → (write_to b (Some (Data n)) byte events place).reply ≡ accepted value
+      → Then (l.on-byte b.model (channel_at b i) byte b.defer g) (write_to b (Some (Data n)) byte events place).board
   data-turn n byte events place value heeded is =
       subst
-      (λ (m : ℕ). (write_to b (Data m) byte events place).reply ≡ accepted value
-      → Then (l.on-byte b.model (channel_at b i) byte b.defer g) (write_to b (Data m) byte events place).board)
+      (λ (m : ℕ). (write_to b (Some (Data m)) byte events place).reply ≡ accepted value
+      → Then (l.on-byte b.model (channel_at b i) byte b.defer g) (write_to b (Some (Data m)) byte events place).board)
       (sym is)
       (settled-now (l.on-byte b.model (channel_at b i) byte b.defer g) (write_byte (channel_at b i) byte b.defer) events place value
       (kept.byte-kept g (channel_at b i) byte b.defer heeded now))
 
   own-port : (n port byte : ℕ) (events : List ℕ) (place : ℕ) (value : Value) → l.heeds byte → port ≡ 0x40 + n → n < 3
       → (same : Bool) → eqb port (0x40 + i) ≡ same
-      → (write_to b (Data n) byte events place).reply ≡ accepted value
+      → (write_to b (Some (Data n)) byte events place).reply ≡ accepted value
       → Then (cond same (l.on-byte b.model (channel_at b i) byte b.defer g) (cond (eqb port 0x43) (on_command l i (command_of b.model byte) g) g))
-      (write_to b (Data n) byte events place).board
+      (write_to b (Some (Data n)) byte events place).board
   own-port n port byte events place value heeded is below true e took =
       data-turn n byte events place value heeded (let q : port ≡ 0x40 + i = eqb-true port (0x40 + i) e in omega arith) took
   own-port n port byte events place value heeded is below false e took =
       let other : port ≡ 0x40 + i → ⊥ = eqb-false port (0x40 + i) e in
-      subst (λ (t : Bool). Then (cond t (on_command l i (command_of b.model byte) g) g) (write_to b (Data n) byte events place).board)
+      subst (λ (t : Bool). Then (cond t (on_command l i (command_of b.model byte) g) g) (write_to b (Some (Data n)) byte events place).board)
       (sym (ne_eqb port 0x43 (λ q. omega arith)))
-      (stays (write_to b (Data n) byte events place).board (write-stays b i (Data n) byte events place (λ q. other (omega arith))))
+      (stays (write_to b (Some (Data n)) byte events place).board (write-stays b i (Some (Data n)) byte events place (λ q. other (omega arith))))
 
-  command-of : (byte : ℕ) (events : List ℕ) (place : ℕ) (value : Value) → WriteThen 0x43 byte events place value CommandPort
+  command-of : (byte : ℕ) (events : List ℕ) (place : ℕ) (value : Value) → WriteThen 0x43 byte events place value (Some CommandPort)
   command-of byte events place value took =
       subst
-      (λ (t : Bool). Then (cond t (l.on-byte b.model (channel_at b i) byte b.defer g) (on_command l i (command_of b.model byte) g)) (write_to b CommandPort byte events place).board)
+      (λ (t : Bool). Then (cond t (l.on-byte b.model (channel_at b i) byte b.defer g) (on_command l i (command_of b.model byte) g)) (write_to b (Some CommandPort) byte events place).board)
       (sym (ne_eqb 0x43 (0x40 + i) (λ q. omega arith)))
       (command-turn events place value (command_of b.model byte) took
-      (λ other. stays (write_to b CommandPort byte events place).board (write-stays b i CommandPort byte events place other)))
+      (λ other. stays (write_to b (Some CommandPort) byte events place).board (write-stays b i (Some CommandPort) byte events place other)))
 
   port-turn : (port byte : ℕ) (events : List ℕ) (place : ℕ) (value : Value) → l.heeds byte → WriteThen port byte events place value (port_of port)
   port-turn port byte events place value heeded =
       by-port port (WriteThen port byte events place value) (λ out took. absurd (refused-not 1 value took))
       (λ n below is. own-port n port byte events place value heeded is below (eqb port (0x40 + i)) refl)
-      (λ is. subst (λ (q : ℕ). WriteThen q byte events place value CommandPort) (sym is) (command-of byte events place value))
+      (λ is. subst (λ (q : ℕ). WriteThen q byte events place value (Some CommandPort)) (sym is) (command-of byte events place value))
 
   -- a level at a gate
   gate-turn : (n : ℕ) (level : Bool) (events : List ℕ) (place : ℕ) (value : Value) → n ≡ i
@@ -254,13 +255,13 @@ module _ {G : Type 0} (l : Listener G) (b : Board) (R : G → Channel → Type 0
       (rw (not-above i on) (placed (l.on-cycle (channel_at b i) g) (load.load_cycle (channel_at b i)) (kept.cycle-kept g (channel_at b i) now)))
 
   -- reads and the dirty mark
-  read-turn : (p : Port) → Then g (read_from b p).board
-  read-turn (Data n) =
-      on-channel n (read_from b (Data n)).board
-      (λ is. subst (λ (m : ℕ). Then g (read_from b (Data m)).board) (sym is) (placed g (read_byte (channel_at b i)).channel (kept.read_kept g (channel_at b i) now)))
-      (λ other. stays (read_from b (Data n)).board (put_other b n i (read_byte (channel_at b n)).channel other))
-  read-turn CommandPort = now
-  read-turn Unknown = now
+  read-turn : (p : Option Port) → Then g (read_from b p).board
+  read-turn (Some (Data n)) =
+      on-channel n (read_from b (Some (Data n))).board
+      (λ is. subst (λ (m : ℕ). Then g (read_from b (Some (Data m))).board) (sym is) (placed g (read_byte (channel_at b i)).channel (kept.read_kept g (channel_at b i) now)))
+      (λ other. stays (read_from b (Some (Data n))).board (put_other b n i (read_byte (channel_at b n)).channel other))
+  read-turn (Some CommandPort) = now
+  read-turn None = now
 
   dirty-turn : (n : ℕ) → Then g (is_dirty b n).board
   unfolding is_dirty

@@ -30,6 +30,7 @@ use Rattle.board.specs.Queries.{get_output_state, get_channel_count, does_channe
 use Rattle.clock.specs.Clock.{elapsed, yielding, timely, catch_up, run}
 use Rattle.ports.specs.declared.port.Port.{Port}
 use Rattle.ports.specs.declared.port.Port.TheVariants.{Data}
+use Rattle.std.specs.Prelude.{Option, Some}
 use Rattle.ports.specs.Port.{port_of}
 use Rattle.ports.proofs.Below.{by-port}
 use Rattle.ports.specs.Gates.{set_channel_gate}
@@ -92,9 +93,9 @@ same-changes : (was is says : Bool) → is ≡ says → Changes was is ↔ Chang
 same-changes was is says e = (λ differs same. differs (same ∙ sym e), λ differs same. differs (same ∙ e))
 
 data-refused : (b : Board) (n byte : ℕ) (events : List ℕ) (place k : ℕ)
-    → ((data_write b n byte events place).reply ≡ refused k) ↔ FirstOf (room_order (WriteDue b (Data n) byte) events place) k
+    → ((data_write b n byte events place).reply ≡ refused k) ↔ FirstOf (room_order (WriteDue b (Some (Data n)) byte) events place) k
 data-refused b n byte events place k =
-    settle-refused (WriteDue b (Data n) byte) events place k b n (write_byte (channel_at b n) byte b.defer)
+    settle-refused (WriteDue b (Some (Data n)) byte) events place k b n (write_byte (channel_at b n) byte b.defer)
     (same-changes _ _ _ (write-level (channel_at b n) byte b.defer))
 
 command-refused : (b : Board) (command : Command) (events : List ℕ) (place k : ℕ)
@@ -120,11 +121,11 @@ write-refused : (b : Board) (port byte : ℕ) (events : List ℕ) (place k : ℕ
     → ((write_port b port byte events place).reply ≡ refused k) ↔ FirstOf (port_unknown port ∷ ticks_owed b ∷ room_order (WriteDue b (port_of port) byte) events place) k
 unfolding write_port
 write-refused b port byte events place k =
-    by-port port (λ (p : Port). ((write_to b p byte events place).reply ≡ refused k) ↔ FirstOf (port_unknown port ∷ ticks_owed b ∷ room_order (WriteDue b p byte) events place) k)
+    by-port port (λ (p : Option Port). ((write_to b p byte events place).reply ≡ refused k) ↔ FirstOf (port_unknown port ∷ ticks_owed b ∷ room_order (WriteDue b p byte) events place) k)
     (λ out. holding (port_unknown port) (ticks_owed b ∷ room_order ⊥ events place) k out)
     (λ n on is.
-    failing (port_unknown port) (ticks_owed b ∷ room_order (WriteDue b (Data n) byte) events place) _ k (λ out. out (omega arith, omega arith))
-    (unless-owed b events _ (room_order (WriteDue b (Data n) byte) events place) k (data-refused b n byte events place k)))
+    failing (port_unknown port) (ticks_owed b ∷ room_order (WriteDue b (Some (Data n)) byte) events place) _ k (λ out. out (omega arith, omega arith))
+    (unless-owed b events _ (room_order (WriteDue b (Some (Data n)) byte) events place) k (data-refused b n byte events place k)))
     (λ is.
     failing (port_unknown port) (ticks_owed b ∷ room_order (CommandDue b (command_of b.model byte)) events place) _ k (λ out. out (omega arith, omega arith))
     (unless-owed b events _ (room_order (CommandDue b (command_of b.model byte)) events place) k (command-refused b (command_of b.model byte) events place k)))
@@ -132,7 +133,7 @@ write-refused b port byte events place k =
 read-refused : (b : Board) (port k : ℕ) → ((read_port b port).reply ≡ refused k) ↔ FirstOf (port_unknown port ∷ []) k
 unfolding read_port
 read-refused b port k =
-    by-port port (λ (p : Port). ((read_from b p).reply ≡ refused k) ↔ FirstOf (port_unknown port ∷ []) k)
+    by-port port (λ (p : Option Port). ((read_from b p).reply ≡ refused k) ↔ FirstOf (port_unknown port ∷ []) k)
     (λ out. holding (port_unknown port) [] k out)
     (λ n on is. failing (port_unknown port) [] _ k (λ out. out (omega arith, omega arith)) (accepts _ k))
     (λ is. failing (port_unknown port) [] _ k (λ out. out (omega arith, omega arith)) (accepts _ k))

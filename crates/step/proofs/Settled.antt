@@ -8,7 +8,7 @@ use native.Mathlib.Omega.{arith}
 use lib.ListN.{length}
 use Rattle.refusal.specs.Reply.{refused}
 use Rattle.channel.specs.declared.Channel.{Channel}
-use Rattle.event.specs.declared.Event.TheVariants.{Unchanged, Level}
+use Rattle.std.specs.Prelude.{Some, None}
 use Rattle.event.specs.Event.{Placing, event_of, place_event}
 use Rattle.event.proofs.Room.{by-unchanged, by_level}
 use Rattle.control.specs.declared.ReadBackWord.{ReadBackWord}
@@ -24,7 +24,7 @@ module _ (due : Type 0) (events : List ℕ) (place k : ℕ) where
   Exactly p = (call_reply p.reply ≡ refused k) ↔ FirstOf (room_order due events place) k
 
   -- no event is due: 7 alone
-  quiet : (due → ⊥) → Exactly (place_event Unchanged events place)
+  quiet : (due → ⊥) → Exactly (place_event None events place)
   quiet none =
       by-unchanged events place Exactly
       (λ past. holding (place_past_end events place) (no_room due events place ∷ []) k past)
@@ -33,7 +33,7 @@ module _ (due : Type 0) (events : List ℕ) (place k : ℕ) where
       (failing (no_room due events place) [] _ k (λ (h : due × (length events - place < 2)). none h.0) (accepts _ k)))
 
   -- an event is due: 7, then 8
-  loud : due → (n : ℕ) (level : Bool) → Exactly (place_event (Level n level) events place)
+  loud : due → (n : ℕ) (level : Bool) → Exactly (place_event (Some (record { channel = n; level = level })) events place)
   loud is n level =
       by_level events place Exactly
       (λ past. holding (place_past_end events place) (no_room due events place ∷ []) k past)

@@ -19,7 +19,8 @@ use Rattle.board.proofs.Channels.{by-channel}
 use Rattle.board.specs.Counting.{counts, load_cycle}
 use Rattle.board.specs.Queries.{is_dirty}
 use Rattle.ports.specs.declared.port.Port.{Port}
-use Rattle.ports.specs.declared.port.Port.TheVariants.{Data, Command, Unknown}
+use Rattle.ports.specs.declared.port.Port.TheVariants.{Data, Command}
+use Rattle.std.specs.Prelude.{Option, Some, None}
 use Rattle.ports.specs.Port.{port_of}
 use Rattle.ports.proofs.Below.{data-below}
 use Rattle.ports.specs.Reads.{read_from, read_port}
@@ -50,10 +51,10 @@ module _ (b : Board) (three : length b.channels ≡ 3) (m : ℕ) where
   stays-still : (o : Operation) → (Touches b.model o m → ⊥) → level_at (step b o).board m ≡ level_at b m
   stays-still o other = ap (λ (c : Channel). c.pins.output) (untouched-stays b m o other)
 
-  read-still : (number : ℕ) (port : Port) → port_of number ≡ port → Still (read_from b port)
-  read-still number (Data n) is = put-still n (data-below number n is) (read_byte (channel_at b n)).channel (read-pins (channel_at b n))
-  read-still number Command is = refl
-  read-still number Unknown is = refl
+  read-still : (number : ℕ) (port : Option Port) → port_of number ≡ port → Still (read_from b port)
+  read-still number (Some (Data n)) is = put-still n (data-below number n is) (read_byte (channel_at b n)).channel (read-pins (channel_at b n))
+  read-still number (Some Command) is = refl
+  read-still number None is = refl
 
   pub others-still : (o : Operation) → may_move o ≡ false → level_at (step b o).board m ≡ level_at b m
   unfolding read_port counts load_cycle is_dirty

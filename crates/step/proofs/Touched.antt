@@ -17,7 +17,8 @@ use Rattle.board.specs.Counting.{counts, load_cycle}
 use Rattle.board.specs.Queries.{get_output_state, get_channel_count, does_channel_retrigger, is_dirty}
 use Rattle.clock.specs.Clock.{elapsed, yielding, timely, catch_up, run}
 use Rattle.ports.specs.declared.port.Port.{Port}
-use Rattle.ports.specs.declared.port.Port.TheVariants.{Data, Command as CommandPort, Unknown}
+use Rattle.ports.specs.declared.port.Port.TheVariants.{Data, Command as CommandPort}
+use Rattle.std.specs.Prelude.{Option, Some, None}
 use Rattle.ports.specs.Port.{port_of}
 use Rattle.ports.specs.Settle.{settle}
 use Rattle.ports.proofs.Settling.{untouched-holds, settle-holds}
@@ -51,15 +52,15 @@ module _ (b : Board) (m : ℕ) where
   command-stays (ReadBack word) events place other =
       read-backs-hold b events place word (λ (d : Board). channel_at d m ≡ channel_at b m) refl (unnamed-stays b word m (not_named (names word m) other))
 
-  pub write-stays : (port : Port) (byte : ℕ) (events : List ℕ) (place : ℕ) → (WriteTouches b.model port byte m → ⊥) → Stays (write_to b port byte events place)
-  write-stays (Data n) byte events place other = owing-stays events _ (settle-stays n _ events place other)
-  write-stays CommandPort byte events place other = owing-stays events _ (command-stays (command_of b.model byte) events place other)
-  write-stays Unknown byte events place other = refl
+  pub write-stays : (port : Option Port) (byte : ℕ) (events : List ℕ) (place : ℕ) → (WriteTouches b.model port byte m → ⊥) → Stays (write_to b port byte events place)
+  write-stays (Some (Data n)) byte events place other = owing-stays events _ (settle-stays n _ events place other)
+  write-stays (Some CommandPort) byte events place other = owing-stays events _ (command-stays (command_of b.model byte) events place other)
+  write-stays None byte events place other = refl
 
-  read_stays : (port : Port) → (ReadTouches port m → ⊥) → Stays (read_from b port)
-  read_stays (Data n) other = put_other b n m _ other
-  read_stays CommandPort other = refl
-  read_stays Unknown other = refl
+  read_stays : (port : Option Port) → (ReadTouches port m → ⊥) → Stays (read_from b port)
+  read_stays (Some (Data n)) other = put_other b n m _ other
+  read_stays (Some CommandPort) other = refl
+  read_stays None other = refl
 
   yielding-stays : (warp : ℕ) (defer : Bool) (made : Reply Yield) → Stays (yielding b warp defer made)
   yielding-stays warp defer (refused number) = refl

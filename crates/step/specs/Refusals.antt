@@ -1,5 +1,5 @@
 -- Document 01, "Refusal numbers": the table's conditions, and the order in which a call tests them.
-use Rattle.std.specs.Prelude.{ℕ, ◌+◌, ◌-◌, ◌<◌, ◌≤◌, Bool, List, [], ◌∷◌, ◌⊎◌, ◌≡◌, length}
+use Rattle.std.specs.Prelude.{ℕ, ◌+◌, ◌-◌, ◌<◌, ◌≤◌, Bool, List, [], ◌∷◌, ◌⊎◌, ◌≡◌, length, Option, Some, None}
 use Rattle.control.specs.declared.Command.{Command}
 use Rattle.control.specs.declared.Command.TheVariants.{Nothing, LatchCount, SetMode, ReadBack}
 use Rattle.control.specs.Control.{command_of}
@@ -67,10 +67,10 @@ CommandDue b (SetMode n word) = Changes (level_at b n) (output_after word.mode)
 CommandDue b (ReadBack word) = ⊥
 
 -- whether a byte to a port makes an event due
-abbrev pub WriteDue : Board → Port → ℕ → Type 0
-WriteDue b (port.Data n) byte = Changes (level_at b n) (level_after_write (channel_at b n))
-WriteDue b port.Command byte = CommandDue b (command_of b.model byte)
-WriteDue b port.Unknown byte = ⊥
+abbrev pub WriteDue : Board → Option Port → ℕ → Type 0
+WriteDue b (Some (port.Data n)) byte = Changes (level_at b n) (level_after_write (channel_at b n))
+WriteDue b (Some port.Command) byte = CommandDue b (command_of b.model byte)
+WriteDue b None byte = ⊥
 
 -- whether a gate level does
 abbrev pub GateDue : Board → ℕ → Bool → Type 0

@@ -1,5 +1,5 @@
 -- Which channels' records an operation may change, on a board of a model: those that it names.
-use Rattle.std.specs.Prelude.{ℕ, true, ◌≡◌}
+use Rattle.std.specs.Prelude.{ℕ, true, ◌≡◌, Option, Some, None}
 use Rattle.channel.specs.declared.PitType.{PitType}
 use Rattle.control.specs.declared.Command.{Command}
 use Rattle.control.specs.declared.Command.TheVariants.{Nothing, LatchCount, SetMode, ReadBack}
@@ -17,16 +17,16 @@ CommandTouches (SetMode n word) m = m ≡ n
 CommandTouches (ReadBack word) m = names word m ≡ true
 
 -- a byte written to a data port or to the command port, where the 8253 knows no read-back
-abbrev pub WriteTouches : PitType → Port → ℕ → ℕ → Type 0
-WriteTouches model (port.Data n) byte m = m ≡ n
-WriteTouches model port.Command byte m = CommandTouches (command_of model byte) m
-WriteTouches model port.Unknown byte m = ⊥
+abbrev pub WriteTouches : PitType → Option Port → ℕ → ℕ → Type 0
+WriteTouches model (Some (port.Data n)) byte m = m ≡ n
+WriteTouches model (Some port.Command) byte m = CommandTouches (command_of model byte) m
+WriteTouches model None byte m = ⊥
 
 -- "The command port reads 0."
-abbrev pub ReadTouches : Port → ℕ → Type 0
-ReadTouches (port.Data n) m = m ≡ n
-ReadTouches port.Command m = ⊥
-ReadTouches port.Unknown m = ⊥
+abbrev pub ReadTouches : Option Port → ℕ → Type 0
+ReadTouches (Some (port.Data n)) m = m ≡ n
+ReadTouches (Some port.Command) m = ⊥
+ReadTouches None m = ⊥
 
 -- "`reset` restores three fresh channels"; a tick of the board is one of each channel; of the queries only "`is_dirty`, which clears the mark", changes a record
 abbrev pub Touches : PitType → Operation → ℕ → Type 0
