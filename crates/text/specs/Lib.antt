@@ -1,3 +1,4 @@
 pub mod Ascii
 pub mod Number
 pub mod Put
+pub mod Room

@@ -5,6 +5,10 @@ ghost use Rattle.std.specs.Prelude.{◌≡◌, ◌<◌};
 ghost use Rattle.text.specs.Number.{digit, decimal, hex};
 ghost use Rattle.text.specs.Put.{put, answered};
 
+pub mod room;
+
+pub use room::Text;
+
 #[tactic(auto, unfolding(crate::specs::Put::put))]
 pub fn put(out: &mut [u8], place: usize, text: &[u8]) -> usize
     ensures { answered result out.new ≡ put text.now out.old place }
@@ -28,7 +32,7 @@ pub fn put_decimal(out: &mut [u8], place: usize, n: u64) -> usize
     put(out, place, &digits[..k])
 }
 
-fn digit(d: u8) -> u8
+pub(crate) fn digit(d: u8) -> u8
     requires { d < 16 }
     ensures { result ≡ digit d }
 {
