@@ -5,12 +5,12 @@ use mathlib.Core.Path.{◌≡◌}
 use native.Mathlib.Omega.{arith}
 use lib.ListN.{length}
 use Rattle.text.proofs.Puts.{wrote}
-use Rattle.runner.specs.declared.lending.Replayed.TheVariants.{Written}
+use Rattle.std.specs.Prelude.{Ok}
 use Rattle.runner.specs.Lent.{in_room, replayed}
 use Rattle.runner.specs.Inner.{Puts}
 use Rattle.runner.proofs.Whole.{prints}
 use Rattle.runner.proofs.Lent.{in-room}
 
 pub front : (text : List ℕ) (room : ℕ) (bytes : List ℕ) (n : ℕ) (after : List ℕ) → Puts text room bytes 0 n after → room ≤ length bytes
-    → replayed (Written n) after ≡ in_room room text bytes
+    → replayed (Ok n) after ≡ in_room room text bytes
 front text room bytes n after p h = in-room room text bytes n after h (prints (wrote text bytes 0 n after p.told) (omega (arith, p.short, h)))

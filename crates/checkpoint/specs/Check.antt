@@ -4,12 +4,9 @@ use Rattle.board_encoding.specs.Stored.{board_bytes}
 use Rattle.trace.specs.Judgement.{Judgement, refused_by, sound, ruled, and_then}
 use Rattle.trace.specs.Section.{checkpoint_place}
 use Rattle.trace.specs.Trace.{Trace, read_trace}
-use Rattle.trace.specs.Answer.{fault_of}
 use Rattle.line.specs.Line.{line_room}
 use Rattle.line.specs.Lines.{checked_line, fault_line}
 use Rattle.runner.specs.Lent.{Replaying, in_room}
-use Rattle.checkpoint.specs.declared.checking.Checked.{Checked}
-use Rattle.checkpoint.specs.declared.checking.Checked.TheVariants.{Right, Refused}
 use Rattle.checkpoint.specs.Boards.{size, checkpoint, checkpoint_bytes, checkpoints_in}
 
 -- byte by byte
@@ -42,8 +39,3 @@ checked_text (sound number) = checked_line number
 -- docs/ENCODING.md, `pit_check`: the line into lent bytes of any length
 unfoldable pub check_into : List ℕ → List ℕ → Replaying
 check_into trace bytes = in_room line_room (checked_text (check trace)) bytes
-
--- what the code answers
-abbrev pub checked_of : Checked → Judgement ℕ
-checked_of (Right number) = sound number
-checked_of (Refused f) = refused_by (fault_of f)

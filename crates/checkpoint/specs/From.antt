@@ -5,14 +5,11 @@ use Rattle.board_encoding.specs.Loaded.{board_readable, board_in}
 use Rattle.trace.specs.Judgement.{Judgement, refused_by, sound, ruled, and_then}
 use Rattle.trace.specs.Section.{checkpoint_place}
 use Rattle.trace.specs.Trace.{Trace, read_trace}
-use Rattle.trace.specs.Answer.{fault_of}
 use Rattle.line.specs.Line.{line_room}
 use Rattle.line.specs.Lines.{end_line, fault_line}
 use Rattle.runner.specs.declared.Form.TheVariants.{Lines}
 use Rattle.runner.specs.Printed.{told_from}
 use Rattle.runner.specs.Lent.{Replaying, in_room}
-use Rattle.checkpoint.specs.declared.starting.Start.{Start}
-use Rattle.checkpoint.specs.declared.starting.Start.TheVariants.{There, Refused}
 use Rattle.checkpoint.specs.Boards.{size, operations_to, checkpoint_bytes, checkpoints_in}
 
 -- "18 .. for a replay from one that is missing or unreadable": a missing one's place is the whole length, an unreadable one's its first byte
@@ -43,14 +40,9 @@ from_judged bytes k (sound t) = from_text t k (start_at bytes (size t) k)
 abbrev pub start_of : List ℕ → ℕ → Judgement Board
 start_of bytes k = and_then (read_trace bytes) (λ t. start_at bytes (size t) k)
 
--- whether there is one, or why not ..
+-- whether there is one, or why not
 abbrev pub start_checked : Judgement Board → Judgement Unit
 start_checked j = and_then j (λ b. sound tt)
-
--- .. and what the code answers to that
-abbrev pub start_found : Start → Judgement Unit
-start_found There = sound tt
-start_found (Refused f) = refused_by (fault_of f)
 
 -- what the replay from checkpoint k prints
 unfoldable pub printed_from : List ℕ → ℕ → List ℕ

@@ -16,7 +16,7 @@ mark bytes = and_then (read_trace bytes) (λ t. sound (marked_as bytes t))
 
 -- docs/ENCODING.md, `pit_mark`: into lent bytes of any length
 abbrev pub mark_judged : Judgement (List ℕ) → List ℕ → Replaying
-mark_judged (refused_by f) bytes = record { reply = refused (fault_status f.number f.within); bytes = bytes }
+mark_judged (refused_by f) bytes = record { reply = refused (fault_status f.number f.operation); bytes = bytes }
 mark_judged (sound marked) bytes = in_room (length marked) marked bytes
 
 unfoldable pub mark_into : List ℕ → List ℕ → Replaying

@@ -12,9 +12,9 @@ ghost use Rattle.checkpoint.specs.Inner.{trace_found};
 
 use crate::board_after;
 use board::Board;
-use runner::lending::Replayed;
+use runner::lending::ReplayError;
 use trace::CHECKPOINT_EVERY;
-use trace::head::{Head, Judged};
+use trace::head::Head;
 use trace::operation::place_of;
 use trace::section::{checkpoint_place, checkpoints_of};
 
@@ -24,14 +24,10 @@ fn put_boards(trace: &[u8], head: Head, number: u32, out: &mut [u8], place: usiz
     requires number_in_bounds { place + board_size * number ≤ length out.old }
     ensures { answered result out.new ≡ put (boards_from (trace_found trace.now head) 0 number) out.old place }
 {
-    let model = head.model;
-    let made = Board::new(model, head.divisor);
-    let mut board = made.board;
+    let mut board = Board::new(head.model, head.divisor).board;
     let mut at = place;
-    let mut k: u32 = 0;
-    while k < number {
+    for k in 0..number {
         let first = CHECKPOINT_EVERY * k;
-        k += 1;
         board = board_after(trace, board, first, first + CHECKPOINT_EVERY);
         let bytes = board_encoding::board_bytes(board);
         at = text::put(out, at, &bytes);
@@ -55,22 +51,17 @@ fn mark_sound(trace: &[u8], head: Head, out: &mut [u8]) -> usize
 }
 
 // The marked trace, where the lent bytes have room for it.
-pub fn mark_into(trace: &[u8], out: &mut [u8]) -> Replayed
+pub fn mark_into(trace: &[u8], out: &mut [u8]) -> Result<usize, ReplayError>
     ensures { replayed result out.new ≡ mark_into trace.now out.old }
 {
-    let judged = trace::judge(trace);
-    match judged {
-        Judged::Refused(fault) => {
-            let refusal = fault.refusal;
-            let within = fault.within;
-            Replayed::Refused(refusal, within)
-        }
-        Judged::Sound(head) => {
+    match trace::judge(trace) {
+        Err(fault) => Err(ReplayError::Refused(fault.refusal, fault.operation)),
+        Ok(head) => {
             let operations = head.operations;
             if out.len() < checkpoint_place(operations, checkpoints_of(operations)) {
-                return Replayed::Short;
+                return Err(ReplayError::Short);
             }
-            Replayed::Written(mark_sound(trace, head, out))
+            Ok(mark_sound(trace, head, out))
         }
     }
 }

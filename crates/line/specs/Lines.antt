@@ -1,15 +1,13 @@
 -- Document 01, "Recorded traces": the lines that the replay program prints. "A read byte prints as two upper-case hex digits, all other numbers in
 -- decimal." Document 02's L3 adds two words to the read line, and L8 the index to a fault's.
-use Rattle.std.specs.Prelude.{ℕ, ◌+◌, Bool, true, false, cond, List, [], ◌++◌, eqb, ltb, get_or}
+use Rattle.std.specs.Prelude.{ℕ, ◌+◌, Bool, true, false, cond, List, [], ◌++◌, eqb, ltb, get_or, Option, None, Some}
 use Rattle.refusal.specs.Reply.{Reply, refused, accepted}
 use Rattle.channel.specs.declared.PitType.{PitType}
 use Rattle.channel.specs.declared.PitType.TheVariants.{Model8253, Model8254}
-use Rattle.latch.specs.declared.label.WhichHalf.{WhichHalf}
-use Rattle.latch.specs.declared.label.WhichHalf.TheVariants.{Low, High, Neither}
+use Rattle.latch.specs.declared.reading.Half.{Half}
+use Rattle.latch.specs.declared.reading.Half.TheVariants.{Low, High}
 use Rattle.board.specs.declared.PortRead.{PortRead}
 use Rattle.board.specs.Outcome.{Value, done, new_place, byte, ticks, output_state, channel_count, retriggers, dirty_marks, timer_accum, worked}
-use Rattle.trace.specs.declared.Within.{Within}
-use Rattle.trace.specs.declared.Within.TheVariants.{Outside, InOperation}
 use Rattle.trace.specs.Judgement.{Faulted}
 use Rattle.text.specs.Ascii.{ascii}
 use Rattle.text.specs.Number.{decimal, hex}
@@ -32,10 +30,10 @@ abbrev pub refused_text : ℕ → List ℕ
 refused_text number = ascii "refused " ++ decimal number
 
 -- 02, L3: "`7 read 03 low held` and `8 read 00 high held`", "and the command port prints `read 00 none live`": the half ..
-abbrev pub half_text : WhichHalf → List ℕ
-half_text Low = ascii " low"
-half_text High = ascii " high"
-half_text Neither = ascii " none"
+abbrev pub half_text : Option Half → List ℕ
+half_text (Some Low) = ascii " low"
+half_text (Some High) = ascii " high"
+half_text None = ascii " none"
 
 -- .. and held; "not latched is `live`"
 abbrev pub held_text : Bool → List ℕ
@@ -101,10 +99,10 @@ unfoldable pub checked_line : ℕ → List ℕ
 checked_line number = ascii "checked " ++ decimal number ++ newline
 
 -- "The line becomes `trace refused N at P operation I`. The older line stays for faults outside operations" (02, L8)
-abbrev pub within_text : Within → List ℕ
-within_text Outside = []
-within_text (InOperation index) = ascii " operation " ++ decimal index
+abbrev pub within_text : Option ℕ → List ℕ
+within_text None = []
+within_text (Some index) = ascii " operation " ++ decimal index
 
 -- "a fault prints only `trace refused N at P`"
 unfoldable pub fault_line : Faulted → List ℕ
-fault_line f = ascii "trace refused " ++ decimal f.number ++ ascii " at " ++ decimal f.place ++ within_text f.within ++ newline
+fault_line f = ascii "trace refused " ++ decimal f.number ++ ascii " at " ++ decimal f.place ++ within_text f.operation ++ newline

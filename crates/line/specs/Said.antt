@@ -1,5 +1,5 @@
 -- Document 01, "Recorded traces": what a line of a replay can say.
-use Rattle.std.specs.Prelude.{ℕ, List, [], ◌∷◌}
+use Rattle.std.specs.Prelude.{ℕ, List}
 use Rattle.trace.specs.Answer.{fault_of}
 use Rattle.board.specs.Answer.{reply_of}
 use Rattle.line.specs.declared.sentence.Sentence.{Sentence}
@@ -9,8 +9,7 @@ use Rattle.line.specs.Lines.{head_line, operation_line, end_line, checked_line, 
 -- "a head line, one line for each operation .., and an end line"; "a fault prints only .."
 abbrev pub sentence_text : Sentence → List ℕ
 sentence_text (Head model divisor) = head_line model divisor
-sentence_text (Operation index answer e0 e1 e2 e3 e4 e5 left) =
-    operation_line index (reply_of answer) (e0 ∷ e1 ∷ e2 ∷ e3 ∷ e4 ∷ e5 ∷ []) left.0
+sentence_text (Operation index answer events left) = operation_line index (reply_of answer) events left.0
 sentence_text (End number) = end_line number
 sentence_text (Fault fault) = fault_line (fault_of fault)
 -- how many checkpoints are right (02, L7)

@@ -1,4 +1,2 @@
-pub mod Padded
-pub mod Room
 pub mod Recorded
 pub mod Steps

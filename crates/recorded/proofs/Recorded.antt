@@ -4,6 +4,8 @@ use mathlib.Core.Bool.{Bool, true, false, cond}
 use mathlib.Core.List.{List}
 use mathlib.Core.Path.{◌≡◌, refl, ap, ◌∙◌}
 use lib.Dec.{ltb}
+use Rattle.std.specs.Prelude.{Option, Some, None, Result, Ok}
+use Rattle.refusal.specs.declared.Refusal.{Refusal}
 use Rattle.control.specs.declared.Command.{Command}
 use Rattle.control.specs.declared.Command.TheVariants as command
 use Rattle.control.specs.Control.{command_of}
@@ -19,38 +21,38 @@ use Rattle.recorded.specs.Asked.{two_lent, padded}
 use Rattle.recorded.specs.Made.{in_six, make}
 use Rattle.turn.specs.Finding.{command_turn, write_turn, read_turn}
 use Rattle.turn.specs.Inner.{owes, Bare}
-use Rattle.turn.specs.Turn.{turned}
+use Rattle.turn.specs.Turn.{taken}
 use Rattle.recorded.specs.Finding.{turn_of}
 use Rattle.recorded.specs.Inner.{turned_in_six}
 use Rattle.turn.proofs.Turn.{write-is, gate-is, read_is, counts-is, load-cycle-is, catch-up-is, run_is, reset-is}
 
 -- a turn that is lent two bytes
-abbrev Two : Board → Turn → Type 0
-Two b t = in_six (turned b t two_lent 0) ≡ turned_in_six b t
+abbrev Two : Board → Result Turn Refusal → Type 0
+Two b t = in_six (taken b t two_lent 0) ≡ turned_in_six b t
 
 module _ (b : Board) where
-  either : (x : Bool) (s t : Turn) → Two b s → Two b t → Two b (cond x s t)
+  either : (x : Bool) (s t : Result Turn Refusal) → Two b s → Two b t → Two b (cond x s t)
   either true s t first second = first
   either false s t first second = second
 
-  of-command : (k : Command) → Two b (command_turn k)
+  of-command : (k : Command) → Two b (Ok (command_turn k))
   of-command command.Nothing = refl
   of-command (command.LatchCount n) = refl
   of-command (command.SetMode n word) = refl
   of-command (command.ReadBack word) = refl
 
-  of-write : (p : Port) (byte : ℕ) → Two b (write_turn (owes b) b.model p byte)
-  of-write (port.Data n) byte = either (owes b) _ _ refl refl
-  of-write port.Command byte = either (owes b) _ _ refl (of-command (command_of b.model byte))
-  of-write port.Unknown byte = refl
+  of-write : (p : Option Port) (byte : ℕ) → Two b (write_turn (owes b) b.model p byte)
+  of-write (Some (port.Data n)) byte = either (owes b) _ _ refl refl
+  of-write (Some port.Command) byte = either (owes b) _ _ refl (of-command (command_of b.model byte))
+  of-write None byte = refl
 
-  of-read : (p : Port) → Two b (read_turn p)
-  of-read (port.Data n) = refl
-  of-read port.Command = refl
-  of-read port.Unknown = refl
+  of-read : (p : Option Port) → Two b (read_turn p)
+  of-read (Some (port.Data n)) = refl
+  of-read (Some port.Command) = refl
+  of-read None = refl
 
   -- a call that lends no bytes: in six places none and two are the same
-  bare : (o : Outcome) (t : Turn) → Bare b o t → Two b t → in_six o ≡ turned_in_six b t
+  bare : (o : Outcome) (t : Result Turn Refusal) → Bare b o t → Two b t → in_six o ≡ turned_in_six b t
   bare o t is two =
       ap {B = Outcome} (λ (events : List ℕ). record { reply = o.reply; board = o.board; events = padded events }) is.none ∙ ap in_six (is.same two_lent 0) ∙ two
 

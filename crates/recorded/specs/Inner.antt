@@ -1,31 +1,29 @@
--- Not for readers: a turn of a trace with the bytes that are lent for it, as the proofs of the runner say it. proofs/Recorded.antt shows that it comes to `make`.
-use Rattle.std.specs.Prelude.{ℕ, List}
-use Rattle.channel.specs.declared.Channel.{Channel}
+-- Not for readers: a turn of a trace with the bytes that are lent for it, as the proofs of `make` say it. proofs/Recorded.antt shows that it comes to `make`.
+use Rattle.std.specs.Prelude.{ℕ, List, Bool, true, false, cond, Result, Ok, Err}
+use Rattle.refusal.specs.declared.Refusal.{Refusal}
 use Rattle.board.specs.declared.Board.{Board}
-use Rattle.board.specs.Board.{with_channel}
 use Rattle.board.specs.Outcome.{Outcome}
-use Rattle.board.specs.Answer.{reply_of}
 use Rattle.turn.specs.declared.finding.Turn.{Turn}
 use Rattle.turn.specs.declared.finding.Turn.TheVariants as turn
-use Rattle.turn.specs.Turn.{turned}
-use Rattle.recorded.specs.declared.raising.Raised.{Raised}
+use Rattle.turn.specs.Turn.{taken}
 use Rattle.recorded.specs.Asked.{two_lent, six_lent}
 use Rattle.recorded.specs.Made.{in_six}
 
+-- six bytes are lent for ticks worked off
+abbrev pub lends_six : Turn → Bool
+lends_six (turn.OnChannel n w) = false
+lends_six (turn.Elapse given next defers) = false
+lends_six turn.Reset = false
+lends_six (turn.WorkOff stated) = true
+lends_six (turn.ReadBack word) = false
+lends_six turn.Untouched = false
+lends_six (turn.Say answer) = false
+
 -- the bytes that a trace lends to a turn, at place 0
-abbrev pub lent_to : Turn → List ℕ
-lent_to (turn.OnChannel n w) = two_lent
-lent_to (turn.Elapse given next defers) = two_lent
-lent_to turn.Reset = two_lent
-lent_to (turn.WorkOff stated) = six_lent
-lent_to (turn.ReadBack word) = two_lent
-lent_to turn.Untouched = two_lent
-lent_to (turn.Say answer) = two_lent
+abbrev pub lent_to : Result Turn Refusal → List ℕ
+lent_to (Ok t) = cond (lends_six t) six_lent two_lent
+lent_to (Err refusal) = two_lent
 
 -- what a turn of a trace comes to, with the lent bytes after it in six places
-abbrev pub turned_in_six : Board → Turn → Outcome
-turned_in_six b t = in_six (turned b t (lent_to t) 0)
-
--- what the code answers for a new record's event; the new record stands, since two bytes are enough for every event
-abbrev pub raised_on : Board → ℕ → Channel → Raised → Outcome
-raised_on b n new r = record { reply = reply_of r.answer; board = with_channel b n new; events = r.events }
+abbrev pub turned_in_six : Board → Result Turn Refusal → Outcome
+turned_in_six b t = in_six (taken b t (lent_to t) 0)

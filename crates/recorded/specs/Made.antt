@@ -3,7 +3,9 @@ use Rattle.std.specs.Prelude.{List, [], ◌∷◌}
 use Rattle.trace.specs.declared.operation.Operation.{Operation}
 use Rattle.board.specs.declared.Board.{Board}
 use Rattle.board.specs.Outcome.{Outcome}
+use Rattle.board.specs.Answer.{reply_of}
 use Rattle.step.specs.Step.{step}
+use Rattle.recorded.specs.declared.making.Made.{Made}
 use Rattle.recorded.specs.Asked.{asked, padded}
 
 -- a call's reply and board, and the lent bytes after it in six places
@@ -18,3 +20,7 @@ make b o = in_six (step b (asked o))
 abbrev pub make_all : Board → List Operation → Board
 make_all b [] = b
 make_all b (o ∷ os) = make_all (make b o).board os
+
+-- what the code answers, with the board after it
+abbrev pub made_on : Board → Made → Outcome
+made_on b m = record { reply = reply_of m.answer; board = b; events = m.events }

@@ -1,8 +1,8 @@
-// Operations of a trace: the turn of each, and the event that a channel's new record raises with the two bytes that a trace lends. The runner does the turns.
+// Operations of a trace: the turn of each (finding.rt), and each made on a board with the event bytes that a trace lends (making.rt). The runner goes through them.
 #![tactic(auto)]
 
 mod finding;
-pub mod raising;
+pub mod making;
 
 pub use finding::turn_of;
-pub use raising::raise;
+pub use making::{Made, make};

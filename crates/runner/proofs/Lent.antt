@@ -9,17 +9,18 @@ use Rattle.trace.specs.declared.head.Head.{Head}
 use Rattle.trace.specs.Judgement.{Faulted, refused_by}
 use Rattle.trace.specs.Trace.{read_trace}
 use Rattle.trace.proofs.Sound.{SoundAs}
-use Rattle.runner.specs.declared.lending.Replayed.TheVariants.{Written, Short}
+use Rattle.std.specs.Prelude.{Ok, Err}
+use Rattle.runner.specs.declared.lending.ReplayError.TheVariants.{Short}
 use Rattle.runner.specs.Printed.{printed, Prints}
 use Rattle.runner.specs.Lent.{in_room, room_for, replay_into, replayed}
 use Rattle.runner.specs.Inner.{to_tell}
 use Rattle.runner.proofs.Loop.{as-many-as}
 
-pub no-room : (room : ℕ) (text bytes : List ℕ) → length bytes < room → replayed Short bytes ≡ in_room room text bytes
+pub no-room : (room : ℕ) (text bytes : List ℕ) → length bytes < room → replayed (Err Short) bytes ≡ in_room room text bytes
 no-room room text bytes h = simp (lt-ltb (length bytes) room h)
 
 pub in-room : (room : ℕ) (text bytes : List ℕ) (n : ℕ) (after : List ℕ) → room ≤ length bytes → Prints text bytes n after
-    → replayed (Written n) after ≡ in_room room text bytes
+    → replayed (Ok n) after ≡ in_room room text bytes
 in-room room text bytes n after h p = simp (le-ltb (length bytes) room h, p.0, p.1)
 
 -- the room that a trace asks for
@@ -34,10 +35,10 @@ room-sound trace h whole = ap room_for whole.whole ∙ ap (λ (n : ℕ). line_ro
 
 -- what is printed, into lent bytes that have the room or do not
 module _ (trace bytes : List ℕ) (room : ℕ) (is : room_for (read_trace trace) ≡ room) where
-  pub too_short : length bytes < room → replayed Short bytes ≡ replay_into trace bytes
+  pub too_short : length bytes < room → replayed (Err Short) bytes ≡ replay_into trace bytes
   unfolding replay_into
   too_short h = rw is (no-room room (printed trace) bytes h)
 
-  pub written : (n : ℕ) (after : List ℕ) → room ≤ length bytes → Prints (printed trace) bytes n after → replayed (Written n) after ≡ replay_into trace bytes
+  pub written : (n : ℕ) (after : List ℕ) → room ≤ length bytes → Prints (printed trace) bytes n after → replayed (Ok n) after ≡ replay_into trace bytes
   unfolding replay_into
   written n after h p = rw is (in-room room (printed trace) bytes n after h p)

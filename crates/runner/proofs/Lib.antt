@@ -3,5 +3,4 @@ pub mod Loop
 pub mod Whole
 pub mod Lent
 pub mod Apart
-pub mod Ticks
 pub mod ReadBytes

@@ -7,16 +7,17 @@ use native.Mathlib.Omega.{arith}
 use Rattle.numbers.specs.Flags.{flag_number}
 use Rattle.numbers.specs.Little.{four_bytes}
 use Rattle.numbers.proofs.Little.{four-of}
-use Rattle.latch.specs.declared.label.WhichHalf.{WhichHalf}
-use Rattle.latch.specs.declared.label.WhichHalf.TheVariants.{Low, High, Neither}
+use Rattle.std.specs.Prelude.{Option, Some, None}
+use Rattle.latch.specs.declared.reading.Half.{Half}
+use Rattle.latch.specs.declared.reading.Half.TheVariants.{Low, High}
 use Rattle.latch.specs.Label.{half_number}
 use Rattle.board.specs.declared.PortRead.{PortRead}
 use Rattle.runner.specs.Answers.{read_number}
 
-half-fits : (half : WhichHalf) → half_number half < 256
-half-fits Neither = omega arith
-half-fits Low = omega arith
-half-fits High = omega arith
+half-fits : (half : Option Half) → half_number half < 256
+half-fits None = omega arith
+half-fits (Some Low) = omega arith
+half-fits (Some High) = omega arith
 
 flag-fits : (flag : Bool) → flag_number flag < 256
 flag-fits true = omega arith

@@ -1,4 +1,4 @@
--- The runner's turns: what the operations that are left come to, in every form, and how one of them goes on from there. Assumes nothing.
+-- The runner's loop: what the operations that are left come to, in every form, and how one of them goes on from there. Assumes nothing.
 use Prim.Native.Nat.{ℕ, zero, suc, ◌+◌, ◌-◌, ◌*◌, ◌<◌, ◌≤◌}
 use mathlib.Core.List.{List, ◌∷◌, ◌++◌}
 use mathlib.Core.Path.{◌≡◌, refl, sym, ap, subst, ◌∙◌}
@@ -12,11 +12,7 @@ use Rattle.text.specs.Put.{put}
 use Rattle.text.proofs.Puts.{put-length}
 use Rattle.trace.specs.declared.operation.Operation.{Operation}
 use Rattle.trace.specs.Operation.{operation_in}
-use Rattle.turn.specs.Inner.{owes}
 use Rattle.recorded.specs.Made.{make}
-use Rattle.recorded.specs.Finding.{turn_of}
-use Rattle.recorded.specs.Inner.{turned_in_six}
-use Rattle.recorded.proofs.Recorded.{turn-made}
 use Rattle.runner.specs.declared.Form.{Form}
 use Rattle.runner.specs.Printed.{room_of, said_of, told_from}
 use Rattle.runner.specs.Inner.{found_from, Puts, Telling, telling, tell_one, tell_all}
@@ -34,15 +30,10 @@ pub record Running (form : Form) (trace : List ℕ) (first last : ℕ) (start : 
   pub comes : Left form trace k last (telling b at out) ≡ Left form trace first last (telling start place bytes)
   pub short : LeftShort form trace k last b → LeftShort form trace first last start
   pub same_length : length out ≡ length bytes
-  pub three : length b.channels ≡ 3
 
-pub begun : (form : Form) (trace : List ℕ) (first last : ℕ) (start : Board) (place : ℕ) (bytes : List ℕ) → length start.channels ≡ 3
+pub begun : (form : Form) (trace : List ℕ) (first last : ℕ) (start : Board) (place : ℕ) (bytes : List ℕ)
     → Running form trace first last start place bytes first start place bytes
-begun form trace first last start place bytes three = record { comes = refl; short = λ h. h; same_length = refl; three = three }
-
--- the turn at an index comes to what the operation there makes of the board
-pub turn-at-made : (b : Board) (trace : List ℕ) (index : ℕ) → make b (operation_in trace index) ≡ turned_in_six b (turn_of (owes b) b.model (operation_in trace index))
-turn-at-made b trace index = turn-made b (operation_in trace index)
+begun form trace first last start place bytes = record { comes = refl; short = λ h. h; same_length = refl }
 
 left_one : (k last : ℕ) → k < last → last - k ≡ suc (last - suc k)
 left_one k last h = omega arith
@@ -53,9 +44,9 @@ one-more room left a b h k = rw (mul-suc room left) (omega (arith, h, k))
 module _ (form : Form) (trace : List ℕ) (first last : ℕ) (start : Board) (place : ℕ) (bytes : List ℕ) (k : ℕ) (b : Board) (at : ℕ) (out : List ℕ) (r : Running form trace first last start place bytes k b at out) where
   -- one operation more: its outcome, and what is said of it put behind the rest
   pub goes-on : k < last → (outcome : Outcome) → make b (operation_in trace k) ≡ outcome
-      → (at₁ : ℕ) (out₁ : List ℕ) → Puts (said_of form k outcome) (room_of form) out at at₁ out₁ → length outcome.board.channels ≡ 3
+      → (at₁ : ℕ) (out₁ : List ℕ) → Puts (said_of form k outcome) (room_of form) out at at₁ out₁
       → Running form trace first last start place bytes (k + 1) outcome.board at₁ out₁
-  goes-on h outcome made at₁ out₁ said three =
+  goes-on h outcome made at₁ out₁ said =
       let o = operation_in trace k in
       let left = last - suc k in
       let rest = found_from trace (suc k) left in
@@ -72,7 +63,6 @@ module _ (form : Form) (trace : List ℕ) (first last : ℕ) (start : Board) (pl
             (subst (λ (os : List Operation). length (told_from form b k os) ≤ room_of form * (last - k)) (sym later)
             (rw text (rw (left_one k last h) (simp length-append (one-more (room_of form) left _ _ said.short few)))));
         same_length = put-length (said_of form k outcome) out at at₁ out₁ said.told ∙ r.same_length;
-        three = three;
       }
 
   -- nothing is left

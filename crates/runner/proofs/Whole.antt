@@ -12,10 +12,6 @@ use Rattle.channel.proofs.Pick.{of-pick, pick_same}
 use Rattle.board.specs.declared.Board.{Board}
 use Rattle.board.specs.Outcome.{Outcome}
 use Rattle.board.specs.Making.{fresh, new}
-use Rattle.line.specs.declared.Line.{Line}
-use Rattle.line.specs.Line.{line_of}
-use Rattle.line.proofs.Back.{line-back}
-use Rattle.text.specs.Put.{put, answered}
 use Rattle.text.proofs.Puts.{Wrote, put-fits}
 use Rattle.trace.specs.declared.operation.Operation.{Operation}
 use Rattle.trace.specs.Judgement.{sound}
@@ -42,11 +38,6 @@ told-sound form trace number all start place bytes r after t room =
     let every : number - 0 ≡ number = omega arith in
     let found : Tells form 0 number (found_from trace 0 number) start place bytes r after = subst (λ (n : ℕ). Tells form 0 n (found_from trace 0 n) start place bytes r after) every t in
     told-whole form 0 number (to_tell trace 0 number) start place bytes r after (subst (λ (os : List Operation). Tells form 0 number os start place bytes r after) (found-are trace 0 number all) found) room
-
--- a line that is put is its text put
-pub line-put : (line : Line) (text bytes : List ℕ) (place place₁ : ℕ) (bytes₁ : List ℕ) → line ≡ line_of text
-    → answered place₁ bytes₁ ≡ put (take line.len line.bytes) bytes place → answered place₁ bytes₁ ≡ put text bytes place
-line-put line text bytes place place₁ bytes₁ is e = e ∙ ap (λ (t : List ℕ). put t bytes place) (line-back line text is)
 
 pub prints : {text bytes bytes₁ : List ℕ} {place₁ : ℕ} → Wrote text bytes 0 place₁ bytes₁ → length text ≤ length bytes → Prints text bytes place₁ bytes₁
 prints {text} {bytes} w fits =

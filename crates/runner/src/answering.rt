@@ -4,6 +4,7 @@ ghost use Rattle.board.specs.Answer.{reply_of};
 ghost use Rattle.runner.specs.Answers.{read_number, bytes_written, said_in, trace_answer_bytes};
 
 use board::{Answer, PortRead};
+use refusal::Refusal;
 use time::SystemTicks;
 
 // The refusal's number, how many event bytes were written, six event bytes, and two numbers.
@@ -31,72 +32,69 @@ fn saying(written: u8, value: u32) -> Said
 fn read_number(read: PortRead) -> u32
     ensures { result ≡ read_number read }
 {
-    let label = read.label;
-    let half = label.half;
-    let held = numbers::flag_byte(label.held) as u16;
-    numbers::long(numbers::word(read.byte, half.number()), held)
+    let half = read.label.half_number();
+    u32::from_le_bytes([read.byte, half, u8::from(read.label.held), 0])
 }
 
 // The events were lent at place 0, so as many bytes were written as the new place says. No more than six are lent.
 fn bytes_written(at: usize) -> u8
     ensures { result ≡ bytes_written at }
 {
-    if 6 < at {
-        return 6;
-    }
-    at as u8
+    at.min(6) as u8
 }
 
-fn said_in(answer: Answer) -> Said
+fn said_in(answer: Result<Answer, Refusal>) -> Said
     ensures { result ≡ said_in (reply_of answer) }
 {
     match answer {
-        Answer::Refused(refusal) => Said {
+        Err(refusal) => Said {
             refusal: refusal.number(),
             written: 0,
             value: 0,
         },
-        Answer::Place(at) => saying(bytes_written(at), 0),
-        Answer::Byte(read) => saying(0, read_number(read)),
-        Answer::Ticks(number) => saying(0, number.0),
-        Answer::Worked(worked) => {
-            let made = worked.made;
-            saying(bytes_written(worked.place), made.0)
-        }
-        Answer::Done => saying(0, 0),
-        Answer::OutputState(_) => saying(0, 0),
-        Answer::Count(_) => saying(0, 0),
-        Answer::Retriggers(_) => saying(0, 0),
-        Answer::Dirty(_, _, _) => saying(0, 0),
+        Ok(Answer::Place(at)) => saying(bytes_written(at), 0),
+        Ok(Answer::Byte(read)) => saying(0, read_number(read)),
+        Ok(Answer::Ticks(yielded)) => saying(0, yielded.0),
+        Ok(Answer::Worked(worked)) => saying(bytes_written(worked.place), worked.made.0),
+        // Of these only `Done` answers an operation of a trace.
+        Ok(
+            Answer::Done
+            | Answer::OutputState(_)
+            | Answer::Count(_)
+            | Answer::Retriggers(_)
+            | Answer::Dirty(_),
+        ) => saying(0, 0),
     }
 }
 
+#[tactic(auto, unfolding(crate::specs::Answers::trace_answer_bytes))]
 pub(crate) fn trace_answer_bytes(
-    answer: Answer,
+    answer: Result<Answer, Refusal>,
     events: [u8; 6],
     left: SystemTicks,
 ) -> [u8; TRACE_ANSWER_SIZE]
     ensures { result ≡ trace_answer_bytes (reply_of answer) events left.0 }
 {
     let said = said_in(answer);
-    let value = numbers::four_bytes(said.value);
-    let rest = numbers::four_bytes(left.0);
+    let [e0, e1, e2, e3, e4, e5] = events;
+    let [v0, v1, v2, v3] = numbers::four_bytes(said.value);
+    let [r0, r1, r2, r3] = numbers::four_bytes(left.0);
     [
         said.refusal,
         said.written,
-        events[0],
-        events[1],
-        events[2],
-        events[3],
-        events[4],
-        events[5],
-        value[0],
-        value[1],
-        value[2],
-        value[3],
-        rest[0],
-        rest[1],
-        rest[2],
-        rest[3],
+        e0,
+        e1,
+        e2,
+        e3,
+        e4,
+        e5,
+        v0,
+        v1,
+        v2,
+        v3,
+        r0,
+        r1,
+        r2,
+        r3,
     ]
 }

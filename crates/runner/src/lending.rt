@@ -8,62 +8,50 @@ use board::Board;
 use line::LINE_ROOM;
 use line::sentence::Sentence;
 use refusal::Refusal;
-use trace::Within;
-use trace::head::Judged;
 
-// What comes of a replay into lent bytes: how many bytes were written to their front, the trace's refusal and the operation that it
-// names, or too few bytes lent. But for the first
-// no lent byte changes.
-#[derive(Clone, Copy)]
-pub enum Replayed {
-    Written(usize),
-    Refused(Refusal, Within),
+// Why no byte is written into lent bytes. A replay into them otherwise answers how many bytes were written to their front.
+#[derive(Clone, Copy, Debug, PartialEq, Eq)]
+pub enum ReplayError {
+    // The trace's refusal, and the operation that it names.
+    Refused(Refusal, Option<u32>),
+    // Too few bytes are lent.
     Short,
 }
 
 // What is printed, where the lent bytes have room for every line that the trace can have: one for the head, for each operation and for the end, or one
 // where the trace is refused.
-pub fn replay_into(trace: &[u8], out: &mut [u8]) -> Replayed
+pub fn replay_into(trace: &[u8], out: &mut [u8]) -> Result<usize, ReplayError>
     ensures { replayed result out.new ≡ replay_into trace.now out.old }
 {
-    let judged = trace::judge(trace);
-    match judged {
-        Judged::Refused(fault) => {
+    match trace::judge(trace) {
+        Err(fault) => {
             if out.len() < LINE_ROOM {
-                return Replayed::Short;
+                return Err(ReplayError::Short);
             }
-            Replayed::Written(put_sentence(out, 0, Sentence::Fault(fault)))
+            Ok(put_sentence(out, 0, Sentence::Fault(fault)))
         }
-        Judged::Sound(head) => {
+        Ok(head) => {
             if out.len() < LINE_ROOM * (head.operations as usize + 2) {
-                return Replayed::Short;
+                return Err(ReplayError::Short);
             }
-            Replayed::Written(replay_sound(trace, head, out))
+            Ok(replay_sound(trace, head, out))
         }
     }
 }
 
 // The answers of the operations, where the lent bytes have room for them.
-pub fn answers_into(trace: &[u8], out: &mut [u8]) -> Replayed
+pub fn answers_into(trace: &[u8], out: &mut [u8]) -> Result<usize, ReplayError>
     ensures { replayed result out.new ≡ answers_into trace.now out.old }
 {
-    let judged = trace::judge(trace);
-    match judged {
-        Judged::Refused(fault) => {
-            let refusal = fault.refusal;
-            let within = fault.within;
-            Replayed::Refused(refusal, within)
-        }
-        Judged::Sound(head) => {
-            let number = head.operations;
-            if out.len() < TRACE_ANSWER_SIZE * (number as usize) {
-                return Replayed::Short;
+    match trace::judge(trace) {
+        Err(fault) => Err(ReplayError::Refused(fault.refusal, fault.operation)),
+        Ok(head) => {
+            if out.len() < TRACE_ANSWER_SIZE * (head.operations as usize) {
+                return Err(ReplayError::Short);
             }
-            let model = head.model;
-            let made = Board::new(model, head.divisor);
-            let board = made.board;
-            let told = tell(Form::Answers, trace, board, 0, number, out, 0);
-            Replayed::Written(told.place)
+            let board = Board::new(head.model, head.divisor).board;
+            let told = tell(Form::Answers, trace, board, 0, head.operations, out, 0);
+            Ok(told.place)
         }
     }
 }

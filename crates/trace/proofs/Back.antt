@@ -12,7 +12,7 @@ use borrow.Author.Tests.{lt-ltb, le-ltb, eq-eqb, ne_eqb}
 use Rattle.numbers.specs.Little.{four_bytes}
 use Rattle.numbers.proofs.Little.{long-back}
 use Rattle.channel.specs.declared.PitType.{PitType}
-use Rattle.trace.specs.declared.rule.Rule.TheVariants.{None}
+use Rattle.std.specs.Prelude.{None}
 use Rattle.trace.specs.declared.operation.Operation.{Operation}
 use Rattle.trace.specs.declared.operation.Operation.TheVariants.{WritePort, ReadPort, SetChannelGate, Counts, LoadCycle, CatchUp, Run, Reset, WorkOff}
 use Rattle.trace.specs.Judgement.{sound}

@@ -5,13 +5,14 @@ use mathlib.Core.List.{List}
 use mathlib.Core.Path.{◌≡◌, refl, sym, ap, ◌∙◌}
 use lib.ListN.{length, get_or}
 use native.Mathlib.Omega.{arith}
+use Rattle.std.specs.Prelude.{Option, None, Some}
 use lib.Dec.{eqb, ltb}
 use borrow.Author.Tests.{le-ltb, lt-ltb, eqb-true, ltb-true, ltb-false}
 use Rattle.numbers.specs.Number.{number_at}
 use Rattle.trace.specs.declared.operation.Operation.{Operation}
 use Rattle.trace.specs.declared.operation.Operation.TheVariants.{Reset}
 use Rattle.trace.specs.declared.rule.Rule.{Rule}
-use Rattle.trace.specs.declared.rule.Rule.TheVariants.{None, Code, Target, NumberNotZero, NumberTooLarge}
+use Rattle.trace.specs.declared.rule.Rule.TheVariants.{Code, Target, NumberNotZero, NumberTooLarge}
 use Rattle.trace.specs.Judgement.{Judgement, refused_by, sound, fault_at, fault_in}
 use Rattle.trace.specs.Rule.{broken_rule}
 use Rattle.trace.specs.Operation.{operation_of, judged_by, six_bytes, fitted, unjudged, place_of, operation_at, operation_in}
@@ -23,12 +24,12 @@ value_or other (refused_by f) = other
 value_or other (sound value) = value
 
 -- what is judged sound broke no rule, and is what was judged
-ruled-sound : {A : Type 0} (rule : Rule) (index : ℕ) (value found : A) → judged_by rule index value ≡ sound found → (rule ≡ None) × (value ≡ found)
+ruled-sound : {A : Type 0} (rule : Option Rule) (index : ℕ) (value found : A) → judged_by rule index value ≡ sound found → (rule ≡ None) × (value ≡ found)
 ruled-sound None index value found e = (refl, ap (value_or found) e)
-ruled-sound Code index value found e = absurd (not-refused found (fault_in index 12 (place_of index)) (sym e))
-ruled-sound Target index value found e = absurd (not-refused found (fault_in index 19 (place_of index + 1)) (sym e))
-ruled-sound NumberNotZero index value found e = absurd (not-refused found (fault_in index 20 (place_of index + 2)) (sym e))
-ruled-sound NumberTooLarge index value found e = absurd (not-refused found (fault_in index 21 (place_of index + 2)) (sym e))
+ruled-sound (Some Code) index value found e = absurd (not-refused found (fault_in index 12 (place_of index)) (sym e))
+ruled-sound (Some Target) index value found e = absurd (not-refused found (fault_in index 19 (place_of index + 1)) (sym e))
+ruled-sound (Some NumberNotZero) index value found e = absurd (not-refused found (fault_in index 20 (place_of index + 2)) (sym e))
+ruled-sound (Some NumberTooLarge) index value found e = absurd (not-refused found (fault_in index 21 (place_of index + 2)) (sym e))
 
 fits-itself : (code number : ℕ) (one : Bool) → eqb code 1 ≡ one → (code ≡ 1 → number < 256) → cond one (number % 256) number ≡ number
 fits-itself code number true is few = let h = few (eqb-true code 1 is) in omega (arith, h)

@@ -4,6 +4,7 @@ use mathlib.Core.Bool.{not}
 use mathlib.Core.List.{List, ◌∷◌}
 use mathlib.Core.Path.{◌≡◌, refl, subst}
 use native.Mathlib.Omega.{arith}
+use Rattle.std.specs.Prelude.{Option, None, Some}
 use lib.Dec.{ltb, eqb}
 use lib.ListN.{length, get_or}
 use borrow.Author.Tests.{ltb-false}
@@ -11,7 +12,7 @@ use Rattle.channel.proofs.Pick.{pick-holds, pick-knowing}
 use Rattle.numbers.specs.Number.{number_at}
 use Rattle.trace.specs.declared.head.Head.{Head}
 use Rattle.trace.specs.declared.rule.Rule.{Rule}
-use Rattle.trace.specs.declared.rule.Rule.TheVariants.{None, Code, Target, NumberNotZero, NumberTooLarge}
+use Rattle.trace.specs.declared.rule.Rule.TheVariants.{Code, Target, NumberNotZero, NumberTooLarge}
 use Rattle.trace.specs.declared.operation.Operation.{Operation}
 use Rattle.trace.specs.Judgement.{Judgement, Faulted, refused_by, sound, and_then}
 use Rattle.trace.specs.Head.{head_of, read_head}
@@ -34,18 +35,18 @@ then-fault P (sound a) after first second = second a
 
 -- the numbers of a trace's faults end at 21
 abbrev pub Named : List ℕ → ℕ → Faulted → Type 0
-Named bytes operations f = NamedIn bytes operations f.place f.within × (f.number ≤ 21)
+Named bytes operations f = NamedIn bytes operations f.place f.operation × (f.number ≤ 21)
 
 module _ (bytes : List ℕ) (operations : ℕ) where
   abbrev P : Faulted → Type 0
   P = Named bytes operations
 
-  rule-named : (rule : Rule) (i : ℕ) (o : Operation) → i < operations → operations ≤ 4096 → place_of i + 6 ≤ length bytes → OfFault P (judged_by rule i o)
+  rule-named : (rule : Option Rule) (i : ℕ) (o : Operation) → i < operations → operations ≤ 4096 → place_of i + 6 ≤ length bytes → OfFault P (judged_by rule i o)
   rule-named None i o counted few there = tt
-  rule-named Code i o counted few there = ((counted, few, omega arith, omega arith, there), omega arith)
-  rule-named Target i o counted few there = ((counted, few, omega arith, omega arith, there), omega arith)
-  rule-named NumberNotZero i o counted few there = ((counted, few, omega arith, omega arith, there), omega arith)
-  rule-named NumberTooLarge i o counted few there = ((counted, few, omega arith, omega arith, there), omega arith)
+  rule-named (Some Code) i o counted few there = ((counted, few, omega arith, omega arith, there), omega arith)
+  rule-named (Some Target) i o counted few there = ((counted, few, omega arith, omega arith, there), omega arith)
+  rule-named (Some NumberNotZero) i o counted few there = ((counted, few, omega arith, omega arith, there), omega arith)
+  rule-named (Some NumberTooLarge) i o counted few there = ((counted, few, omega arith, omega arith, there), omega arith)
 
   operation-named : (i : ℕ) → i < operations → operations ≤ 4096 → OfFault P (operation_at bytes i)
   unfolding operation_at

@@ -14,8 +14,9 @@ use borrow.Author.Tests.{ltb-false, eqb-true, eqb-false, not-false}
 use Rattle.numbers.specs.Flags.{flag_number}
 use Rattle.numbers.specs.Little.{four_bytes}
 use Rattle.channel.proofs.Pick.{pick-knowing}
+use Rattle.std.specs.Prelude.{Option, None, Some}
 use Rattle.trace.specs.declared.rule.Rule.{Rule}
-use Rattle.trace.specs.declared.rule.Rule.TheVariants.{None, Code, Target, NumberNotZero, NumberTooLarge}
+use Rattle.trace.specs.declared.rule.Rule.TheVariants.{Code, Target, NumberNotZero, NumberTooLarge}
 use Rattle.trace.specs.declared.head.Head.{Head}
 use Rattle.trace.specs.declared.operation.Operation.{Operation}
 use Rattle.trace.specs.declared.operation.Operation.TheVariants.{WritePort, ReadPort, SetChannelGate, Counts, LoadCycle, CatchUp, Run, Reset, WorkOff}
@@ -115,12 +116,12 @@ operation-form bytes all i =
     let code = get_or bytes p 0 in
     let target = get_or bytes (p + 1) 0 in
     let number = number_at bytes (p + 2) in
-    let P : Rule → Type 0 = λ r. OfSound (Written bytes i) (judged_by r i (operation_of code target number)) in
+    let P : Option Rule → Type 0 = λ r. OfSound (Written bytes i) (judged_by r i (operation_of code target number)) in
     pick-knowing (OfSound (Written bytes i)) (ltb (length bytes) (p + 6)) _ _ (λ short. tt) (λ long.
-    pick-knowing P (code_broken code) Code _ (λ broken. tt) (λ c.
-    pick-knowing P (target_broken code target) Target _ (λ broken. tt) (λ t.
-    pick-knowing P (zero_broken code number) NumberNotZero _ (λ broken. tt) (λ z.
-    pick-knowing P (size_broken code number) NumberTooLarge None (λ broken. tt) (λ s.
+    pick-knowing P (code_broken code) (Some Code) _ (λ broken. tt) (λ c.
+    pick-knowing P (target_broken code target) (Some Target) _ (λ broken. tt) (λ t.
+    pick-knowing P (zero_broken code number) (Some NumberNotZero) _ (λ broken. tt) (λ z.
+    pick-knowing P (size_broken code number) (Some NumberTooLarge) None (λ broken. tt) (λ s.
     let known = (code-kept code).0 c in
     let written =
     by-rules code target number known ((target-kept code target known.1).0 t) ((zero-kept code number).0 z) ((size-kept code number).0 s) (byte_at bytes all (p + 1)) (number_fits bytes all (p + 2)) in

@@ -11,6 +11,7 @@ use lib.ListN.{length, get_or}
 use borrow.Author.Tests.{eqb-false, ne_eqb}
 use Rattle.refusal.proofs.Tests.{below, equal}
 use Rattle.channel.proofs.Pick.{of-pick}
+use Rattle.std.specs.Prelude.{Option}
 use Rattle.trace.specs.declared.rule.Rule.{Rule}
 use Rattle.trace.specs.declared.operation.Operation.{Operation}
 use Rattle.trace.specs.declared.head.Head.{Head}
@@ -72,7 +73,7 @@ operation-decided bytes i rest rows f d =
     let code = get_or bytes p 0 in
     let target = get_or bytes (p + 1) 0 in
     let given = number_at bytes (p + 2) in
-    simp (of-pick (λ (j : Judgement Operation). and_then j (before rest)), of-pick (λ (r : Rule). and_then (judged_by r i (operation_of code target given)) (before rest)))
+    simp (of-pick (λ (j : Judgement Operation). and_then j (before rest)), of-pick (λ (r : Option Rule). and_then (judged_by r i (operation_of code target given)) (before rest)))
     (tested (ltb (length bytes) (p + 6)) (ends_before bytes (p + 6)) _ _ f (below (length bytes) (p + 6)) (λ there.
     tested (code_broken code) (unknown_code bytes i) _ _ f (breaks (code_broken code) (code-kept code)) (λ known.
     tested (target_broken code target) (target_not_zero bytes i) _ _ f (breaks (target_broken code target) (target-kept code target ((code-kept code).0 known).1)) (λ t.

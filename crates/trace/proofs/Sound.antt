@@ -11,7 +11,7 @@ use Rattle.trace.specs.Trace.{Trace, operations_from, trace_of, read_trace}
 use Rattle.trace.specs.Answer.{summary}
 use Rattle.trace.specs.Inner.{soundness, operations_of, behind_head}
 use Rattle.trace.proofs.Values.{not-refused, again, OfSound, itself, through}
-use Rattle.trace.proofs.Turns.{in-turn}
+use Rattle.trace.proofs.Turns.{in_turn}
 use Rattle.trace.proofs.Enough.{few}
 
 -- a trace that is sound to its end, with what its head says
@@ -35,7 +35,7 @@ pub judged-sound : (bytes : List ℕ) (h : Head) → summary (read_trace bytes) 
 judged-sound bytes h e =
     let in_head : Head → Type 0 = λ d. read_head bytes ≡ sound d in
     let after : Head → Judgement Head = λ d. and_then (behind_head bytes d.operations) (λ u. sound d) in
-    subst (OfSound (SoundAs bytes)) (sym (in-turn bytes) ∙ e)
+    subst (OfSound (SoundAs bytes)) (sym (in_turn bytes) ∙ e)
     (through in_head (SoundAs bytes) (read_head bytes) after (itself (read_head bytes))
     (λ d head. by_parts bytes d head (subst (OfSound (λ (g : Head). g.operations ≤ 4096)) head (few bytes)) (operations_from bytes 0 d.operations) refl (section_three bytes d.operations) refl))
 

@@ -6,7 +6,7 @@ use native.Mathlib.Omega.{arith}
 use lib.ListN.{length}
 use Rattle.trace.specs.declared.head.Head.{Head}
 use Rattle.trace.specs.declared.operation.Operation.{Operation}
-use Rattle.trace.specs.Judgement.{Judgement, Faulted, refused_by, sound, and_then}
+use Rattle.trace.specs.Judgement.{Judgement, refused_by, sound, and_then}
 use Rattle.trace.specs.Head.{read_head}
 use Rattle.trace.specs.Operation.{operation_at}
 use Rattle.trace.specs.Section.{section_three}
@@ -22,16 +22,15 @@ before-sound : (rest : Judgement (List Operation)) (o : Operation) → soundness
 before-sound (refused_by f) o = refl
 before-sound (sound os) o = refl
 
-pub goes-on : (bytes : List ℕ) (k n : ℕ) (o : Operation) → k < n → operation_at bytes k ≡ sound o
-    → soundness (operations_from bytes k (n - k)) ≡ soundness (operations_from bytes (suc k) (n - suc k))
-goes-on bytes k n o h e = rw (left_one k n h) (rw e (before-sound (operations_from bytes (suc k) (n - suc k)) o))
+before_sound : (j : Judgement Operation) (rest : Judgement (List Operation))
+    → soundness (and_then j (before rest)) ≡ and_then j (λ o. soundness rest)
+before_sound (refused_by f) rest = refl
+before_sound (sound o) rest = before-sound rest o
 
-pub stops : (bytes : List ℕ) (k n : ℕ) (f : Faulted) → k < n → operation_at bytes k ≡ refused_by f
-    → soundness (operations_from bytes k (n - k)) ≡ refused_by f
-stops bytes k n f h e = rw (left_one k n h) (rw e refl)
-
-pub at-end : (bytes : List ℕ) (k n : ℕ) → k ≡ n → soundness (operations_from bytes k (n - k)) ≡ sound tt
-at-end bytes k n e = let none : n - k ≡ zero = omega arith in rw none refl
+-- of the operations from k on the first is judged, then those after it
+pub one_step : (bytes : List ℕ) (k n : ℕ) → k < n
+    → soundness (operations_from bytes k (n - k)) ≡ and_then (operation_at bytes k) (λ o. soundness (operations_from bytes (suc k) (n - suc k)))
+one_step bytes k n h = rw (left_one k n h) (before_sound (operation_at bytes k) (operations_from bytes (suc k) (n - suc k)))
 
 -- a judgement of as many operations as are asked for
 abbrev pub Counts : ℕ → Judgement (List Operation) → Type 0
@@ -60,6 +59,6 @@ head_first bytes (refused_by f) = refl
 head_first bytes (sound h) = summed h (operations_from bytes 0 h.operations) (section_three bytes h.operations) (as_many bytes 0 h.operations)
 
 -- a trace is judged by its head, then by its operations, then by what follows them
-pub in-turn : (bytes : List ℕ) → summary (read_trace bytes) ≡ and_then (read_head bytes) (λ h. and_then (behind_head bytes h.operations) (λ u. sound h))
+pub in_turn : (bytes : List ℕ) → summary (read_trace bytes) ≡ and_then (read_head bytes) (λ h. and_then (behind_head bytes h.operations) (λ u. sound h))
 unfolding read_trace
-in-turn bytes = head_first bytes (read_head bytes)
+in_turn bytes = head_first bytes (read_head bytes)

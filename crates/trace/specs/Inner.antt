@@ -1,21 +1,9 @@
 -- Not for readers: what the contracts of private functions and the proofs speak of. No public contract and no theorem's statement needs it.
-use Rattle.std.specs.Prelude.{ℕ, List, [], ◌≡◌}
+use Rattle.std.specs.Prelude.{ℕ, List, []}
 use Rattle.trace.specs.declared.operation.Operation.{Operation}
-use Rattle.trace.specs.declared.section.Found.{Found}
-use Rattle.trace.specs.declared.section.Found.TheVariants as found
 use Rattle.trace.specs.Judgement.{Judgement, refused_by, sound, and_then}
-use Rattle.trace.specs.Answer.{fault_of}
 use Rattle.trace.specs.Section.{section_three}
 use Rattle.trace.specs.Trace.{operations_from}
-
--- a code that is none of the first four
-abbrev pub NoneOfFour : ℕ → Type 0
-NoneOfFour code = (code ≡ 1 → ⊥) × (code ≡ 2 → ⊥) × (code ≡ 3 → ⊥) × (code ≡ 4 → ⊥)
-
--- whether the reader's later parts found a fault
-abbrev pub fault_judged : Found → Judgement Unit
-fault_judged (found.Fault f) = refused_by (fault_of f)
-fault_judged found.None = sound tt
 
 -- whether there is a fault, and which
 abbrev pub soundness : {A : Type 0} → Judgement A → Judgement Unit

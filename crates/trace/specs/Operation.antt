@@ -1,8 +1,8 @@
 -- Document 01, "Recorded traces": "operations of six bytes: code, target, number."
-use Rattle.std.specs.Prelude.{ℕ, ◌+◌, ◌*◌, ◌%◌, cond, List, eqb, ltb, length, get_or}
+use Rattle.std.specs.Prelude.{ℕ, ◌+◌, ◌*◌, ◌%◌, cond, List, eqb, ltb, length, get_or, Option, None, Some}
 use Rattle.numbers.specs.Number.{number_at}
 use Rattle.trace.specs.declared.rule.Rule.{Rule}
-use Rattle.trace.specs.declared.rule.Rule.TheVariants.{None, Code, Target, NumberNotZero, NumberTooLarge}
+use Rattle.trace.specs.declared.rule.Rule.TheVariants.{Code, Target, NumberNotZero, NumberTooLarge}
 use Rattle.trace.specs.declared.operation.Operation.{Operation}
 use Rattle.trace.specs.declared.operation.Operation.TheVariants.{WritePort, ReadPort, SetChannelGate, Counts, LoadCycle, CatchUp, Run, Reset, WorkOff}
 use Rattle.trace.specs.Sizes.{head_size, operation_size}
@@ -28,12 +28,12 @@ place_of index = head_size + operation_size * index
 
 -- 12 "operation code not 1 to 8" ("12 now means not 1 to 9": 02, L1); "19 target not 0 where it must be, 20 number not 0 where it must be, 21 number .. too
 -- large" (02, L8): each at its field, inside the operation
-abbrev pub judged_by : {A : Type 0} → Rule → ℕ → A → Judgement A
+abbrev pub judged_by : {A : Type 0} → Option Rule → ℕ → A → Judgement A
 judged_by None index value = sound value
-judged_by Code index value = refused_in index 12 (place_of index)
-judged_by Target index value = refused_in index 19 (place_of index + 1)
-judged_by NumberNotZero index value = refused_in index 20 (place_of index + 2)
-judged_by NumberTooLarge index value = refused_in index 21 (place_of index + 2)
+judged_by (Some Code) index value = refused_in index 12 (place_of index)
+judged_by (Some Target) index value = refused_in index 19 (place_of index + 1)
+judged_by (Some NumberNotZero) index value = refused_in index 20 (place_of index + 2)
+judged_by (Some NumberTooLarge) index value = refused_in index 21 (place_of index + 2)
 
 -- the operation of an index, whose six bytes begin at a place
 abbrev pub six_bytes : List ℕ → ℕ → ℕ → Judgement Operation

@@ -1,9 +1,7 @@
 -- Document 01, "Refusal numbers" and "Recorded traces", and document 02, L7 and L8: the table's conditions for a trace, each with its place, in the order in which they are
 -- tested.
-use Rattle.std.specs.Prelude.{ℕ, zero, suc, ◌+◌, ◌<◌, ◌≤◌, List, [], ◌∷◌, ◌++◌, map, ◌⊎◌, ◌≡◌, length, get_or}
+use Rattle.std.specs.Prelude.{ℕ, zero, suc, ◌+◌, ◌<◌, ◌≤◌, List, [], ◌∷◌, ◌++◌, map, ◌⊎◌, ◌≡◌, length, get_or, Option, None, Some}
 use Rattle.numbers.specs.Number.{number_at}
-use Rattle.trace.specs.declared.Within.{Within}
-use Rattle.trace.specs.declared.Within.TheVariants.{Outside, InOperation}
 use Rattle.trace.specs.Judgement.{Faulted, fault_at, fault_in}
 use Rattle.trace.specs.Sizes.{operation_size, most_operations, checkpoints_of, count_size}
 use Rattle.trace.specs.Operation.{place_of}
@@ -123,8 +121,8 @@ FirstAt [] f = ⊥
 FirstAt (r ∷ rest) f = ((f ≡ r.fault) × r.condition) ⊎ ((r.condition → ⊥) × FirstAt rest f)
 
 -- an index that is named (02, L8) is one of so many operations, all its bytes are there, and the place is inside it
-abbrev pub NamedIn : List ℕ → ℕ → ℕ → Within → Type 0
-NamedIn bytes operations place Outside = Unit
-NamedIn bytes operations place (InOperation index) =
+abbrev pub NamedIn : List ℕ → ℕ → ℕ → Option ℕ → Type 0
+NamedIn bytes operations place None = Unit
+NamedIn bytes operations place (Some index) =
     (index < operations) × (operations ≤ most_operations) × (place_of index ≤ place) × (place < place_of index + operation_size)
     × (place_of index + operation_size ≤ length bytes)

@@ -1,7 +1,7 @@
 -- Document 01, "Recorded traces": the rules of an operation's code, target and number.
-use Rattle.std.specs.Prelude.{ℕ, Bool, false, not, cond, ◌||◌, eqb, ltb}
+use Rattle.std.specs.Prelude.{ℕ, Bool, false, not, cond, ◌||◌, eqb, ltb, Option, None, Some}
 use Rattle.trace.specs.declared.rule.Rule.{Rule}
-use Rattle.trace.specs.declared.rule.Rule.TheVariants.{None, Code, Target, NumberNotZero, NumberTooLarge}
+use Rattle.trace.specs.declared.rule.Rule.TheVariants.{Code, Target, NumberNotZero, NumberTooLarge}
 
 -- 12 "operation code not 1 to 8"; "12 now means not 1 to 9" (02, L1)
 abbrev pub code_broken : ℕ → Bool
@@ -20,8 +20,8 @@ abbrev pub size_broken : ℕ → ℕ → Bool
 size_broken code number = cond (eqb code 1) (ltb 255 number) (cond (eqb code 3) (ltb 1 number) false)
 
 -- "Of an operation all six bytes, then code, target, number."
-abbrev pub broken_rule : ℕ → ℕ → ℕ → Rule
+abbrev pub broken_rule : ℕ → ℕ → ℕ → Option Rule
 broken_rule code target number =
-    cond (code_broken code) Code
-    (cond (target_broken code target) Target
-    (cond (zero_broken code number) NumberNotZero (cond (size_broken code number) NumberTooLarge None)))
+    cond (code_broken code) (Some Code)
+    (cond (target_broken code target) (Some Target)
+    (cond (zero_broken code number) (Some NumberNotZero) (cond (size_broken code number) (Some NumberTooLarge) None)))

@@ -1,14 +1,16 @@
 // The settings and the operation count: four numbers, each first there and then by its rule.
-ghost use Rattle.std.specs.Prelude.{◌≡◌};
+ghost use Rattle.std.specs.Prelude.{◌≡◌, ◌+◌, ◌<◌, ◌^◌};
+ghost use Rattle.numbers.specs.Number.{number_at};
+ghost use Rattle.trace.specs.Judgement.{sound, present};
 ghost use Rattle.trace.specs.Head.{read_head};
-ghost use Rattle.trace.specs.Answer.{head_judged};
+ghost use Rattle.trace.specs.Answer.{judged};
 
-use crate::{Fault, MOST_OPERATIONS, Within};
+use crate::{Fault, MOST_OPERATIONS};
 use channel::PitType;
 use numbers::number_at;
 use refusal::Refusal;
 
-#[derive(Clone, Copy)]
+#[derive(Clone, Copy, Debug, PartialEq, Eq)]
 pub struct Head {
     pub divisor: u32,
     pub model: PitType,
@@ -16,58 +18,40 @@ pub struct Head {
     pub operations: u32,
 }
 
-#[derive(Clone, Copy)]
-pub enum Judged {
-    Sound(Head),
-    Refused(Fault),
-}
-
-fn refused(refusal: Refusal, place: usize) -> Judged
-    ensures { result ≡ Judged.Refused (record { refusal = refusal; place = place; within = Within.Outside }) }
+// A number of four bytes, all of which must be there. Refusal 9.
+pub(crate) fn field(bytes: &[u8], place: usize) -> Result<u32, Fault>
+    requires { place + 4 < 2 ^ 64 }
+    ensures { judged result ≡ present bytes.now (place + 4) (sound (number_at bytes.now place)) }
 {
-    Judged::Refused(Fault {
-        refusal,
-        place,
-        within: Within::Outside,
-    })
+    if bytes.len() < place + 4 {
+        return Err(Fault::outside(Refusal::TraceEnds, bytes.len()));
+    }
+    Ok(number_at(bytes, place))
 }
 
 // Refusals 9, 10, 3, 21 and 11.
 #[tactic(auto, unfolding(crate::specs::Head::read_head))]
-pub fn read_head(bytes: &[u8]) -> Judged
-    ensures { head_judged result ≡ read_head bytes.now }
+pub fn read_head(bytes: &[u8]) -> Result<Head, Fault>
+    ensures { judged result ≡ read_head bytes.now }
 {
-    if bytes.len() < 4 {
-        return refused(Refusal::TraceEnds, bytes.len());
+    if field(bytes, 0)? != 2 {
+        return Err(Fault::outside(Refusal::SettingsCount, 0));
     }
-    if number_at(bytes, 0) != 2 {
-        return refused(Refusal::SettingsCount, 0);
-    }
-    if bytes.len() < 8 {
-        return refused(Refusal::TraceEnds, bytes.len());
-    }
-    let divisor = number_at(bytes, 4);
+    let divisor = field(bytes, 4)?;
     if divisor == 0 {
-        return refused(Refusal::DivisorZero, 4);
+        return Err(Fault::outside(Refusal::DivisorZero, 4));
     }
-    if bytes.len() < 12 {
-        return refused(Refusal::TraceEnds, bytes.len());
-    }
-    let model = number_at(bytes, 8);
+    let model = field(bytes, 8)?;
     if 1 < model {
-        return refused(Refusal::TooLarge, 8);
+        return Err(Fault::outside(Refusal::TooLarge, 8));
     }
-    if bytes.len() < 16 {
-        return refused(Refusal::TraceEnds, bytes.len());
-    }
-    let operations = number_at(bytes, 12);
+    let operations = field(bytes, 12)?;
     if MOST_OPERATIONS < operations {
-        return refused(Refusal::TooManyOperations, 12);
+        return Err(Fault::outside(Refusal::TooManyOperations, 12));
     }
-    let model = PitType::numbered(model);
-    Judged::Sound(Head {
+    Ok(Head {
         divisor,
-        model,
+        model: PitType::numbered(model),
         operations,
     })
 }

@@ -4,6 +4,8 @@
 // last one, if there are any (section.rt). judging.rt puts them together.
 #![tactic(auto)]
 
+ghost use Rattle.std.specs.Prelude.{◌≡◌, None, Some};
+
 pub mod head;
 mod judging;
 pub mod operation;
@@ -37,18 +39,33 @@ pub const LONGEST_TRACE: usize = OPERATIONS_END
     + COUNT_SIZE
     + BOARD_SIZE * ((MOST_OPERATIONS / CHECKPOINT_EVERY) as usize);
 
-// Whether a fault stands inside an operation, all of whose bytes are there, and the index of that operation, counted from 0.
-#[derive(Clone, Copy)]
-pub enum Within {
-    Outside,
-    InOperation(u32),
-}
-
 // Why a trace is refused, and where: at the place of the field that breaks its rule, at the whole length where bytes are missing, at the first byte
-// too many.
-#[derive(Clone, Copy)]
+// too many. Where it stands inside an operation, all of whose bytes are there, that operation's index, counted from 0.
+#[derive(Clone, Copy, Debug, PartialEq, Eq)]
 pub struct Fault {
     pub refusal: Refusal,
     pub place: usize,
-    pub within: Within,
+    pub operation: Option<u32>,
+}
+
+impl Fault {
+    pub fn outside(refusal: Refusal, place: usize) -> Fault
+        ensures { result ≡ record { refusal = refusal; place = place; operation = None } }
+    {
+        Fault {
+            refusal,
+            place,
+            operation: None,
+        }
+    }
+
+    pub fn inside(index: u32, refusal: Refusal, place: usize) -> Fault
+        ensures { result ≡ record { refusal = refusal; place = place; operation = Some index } }
+    {
+        Fault {
+            refusal,
+            place,
+            operation: Some(index),
+        }
+    }
 }

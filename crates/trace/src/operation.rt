@@ -1,17 +1,16 @@
 // One operation: six bytes, its rule, and what it asks for.
 ghost use Rattle.std.specs.Prelude.{◌≡◌};
 ghost use Rattle.trace.specs.Operation.{operation_of, fitted, place_of, operation_at, operation_in};
-ghost use Rattle.trace.specs.Answer.{operation_judged};
-ghost use Rattle.trace.specs.Inner.{NoneOfFour};
+ghost use Rattle.trace.specs.Answer.{judged};
 
 use crate::rule::{Rule, broken_rule};
-use crate::{Fault, HEAD_SIZE, OPERATION_SIZE, Within};
+use crate::{Fault, HEAD_SIZE, OPERATION_SIZE};
 use numbers::number_at;
 use refusal::Refusal;
 use time::SystemTicks;
 
 // Ports and channels are as the trace has them: a bad one is refused when it is run.
-#[derive(Clone, Copy)]
+#[derive(Clone, Copy, Debug, PartialEq, Eq)]
 pub enum Operation {
     // Port and byte.
     WritePort(u8, u8),
@@ -30,26 +29,7 @@ pub enum Operation {
     WorkOff(u32),
 }
 
-#[derive(Clone, Copy)]
-pub enum OperationJudged {
-    Sound(Operation),
-    Refused(Fault),
-}
-
-// Codes 5 to 9, and any other as 9.
-fn later_operation(code: u8, target: u8, number: u32) -> Operation
-    requires { NoneOfFour code }
-    ensures { result ≡ operation_of code target number }
-{
-    match code {
-        5 => Operation::LoadCycle(target),
-        6 => Operation::CatchUp(SystemTicks(number)),
-        7 => Operation::Run(SystemTicks(number)),
-        8 => Operation::Reset,
-        _ => Operation::WorkOff(number),
-    }
-}
-
+// By the rules a code is 1 to 9; any other works ticks off too.
 fn operation_of(code: u8, target: u8, number: u32) -> Operation
     ensures { result ≡ operation_of code target (fitted code number) }
 {
@@ -58,7 +38,11 @@ fn operation_of(code: u8, target: u8, number: u32) -> Operation
         2 => Operation::ReadPort(target),
         3 => Operation::SetChannelGate(target, number == 1),
         4 => Operation::Counts(target, number),
-        _ => later_operation(code, target, number),
+        5 => Operation::LoadCycle(target),
+        6 => Operation::CatchUp(SystemTicks(number)),
+        7 => Operation::Run(SystemTicks(number)),
+        8 => Operation::Reset,
+        _ => Operation::WorkOff(number),
     }
 }
 
@@ -69,40 +53,25 @@ pub fn place_of(index: u32) -> usize
     HEAD_SIZE + OPERATION_SIZE * (index as usize)
 }
 
-fn inside(index: u32, refusal: Refusal, place: usize) -> OperationJudged
-    ensures { result ≡ OperationJudged.Refused (record { refusal = refusal; place = place; within = Within.InOperation index }) }
-{
-    OperationJudged::Refused(Fault {
-        refusal,
-        place,
-        within: Within::InOperation(index),
-    })
-}
-
 // The operation of an index, whatever the trace says of its number of operations. Refusals 9, 12, 19, 20 and 21. One that is not wholly there has no index to name: its
 // refusal is the trace's end.
 #[tactic(auto, unfolding(crate::specs::Operation::operation_at))]
-pub fn operation_at(bytes: &[u8], index: u32) -> OperationJudged
-    ensures { operation_judged result ≡ operation_at bytes.now index }
+pub fn operation_at(bytes: &[u8], index: u32) -> Result<Operation, Fault>
+    ensures { judged result ≡ operation_at bytes.now index }
 {
     let place = place_of(index);
     if bytes.len() < place + OPERATION_SIZE {
-        return OperationJudged::Refused(Fault {
-            refusal: Refusal::TraceEnds,
-            place: bytes.len(),
-            within: Within::Outside,
-        });
+        return Err(Fault::outside(Refusal::TraceEnds, bytes.len()));
     }
     let code = bytes[place];
     let target = bytes[place + 1];
     let number = number_at(bytes, place + 2);
-    let rule = broken_rule(code, target, number);
-    match rule {
-        Rule::Code => inside(index, Refusal::UnknownCode, place),
-        Rule::Target => inside(index, Refusal::TargetNotZero, place + 1),
-        Rule::NumberNotZero => inside(index, Refusal::NumberNotZero, place + 2),
-        Rule::NumberTooLarge => inside(index, Refusal::TooLarge, place + 2),
-        Rule::None => OperationJudged::Sound(operation_of(code, target, number)),
+    match broken_rule(code, target, number) {
+        None => Ok(operation_of(code, target, number)),
+        Some(Rule::Code) => Err(Fault::inside(index, Refusal::UnknownCode, place)),
+        Some(Rule::Target) => Err(Fault::inside(index, Refusal::TargetNotZero, place + 1)),
+        Some(Rule::NumberNotZero) => Err(Fault::inside(index, Refusal::NumberNotZero, place + 2)),
+        Some(Rule::NumberTooLarge) => Err(Fault::inside(index, Refusal::TooLarge, place + 2)),
     }
 }
 

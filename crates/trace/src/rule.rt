@@ -1,11 +1,11 @@
-// The rules of an operation's code, target and number: which one is broken, whatever trace the operation stands in.
+// The rules of an operation's code, target and number: which one is broken, whatever trace the operation stands in. A code is the byte that the trace has, since
+// the first rule is about every byte.
 ghost use Rattle.std.specs.Prelude.{◌≡◌};
 ghost use Rattle.trace.specs.Rule.{target_broken, zero_broken, size_broken, broken_rule};
 
-// The first rule that an operation breaks.
-#[derive(Clone, Copy)]
+// A rule that an operation can break.
+#[derive(Clone, Copy, Debug, PartialEq, Eq)]
 pub enum Rule {
-    None,
     Code,
     Target,
     NumberNotZero,
@@ -15,21 +15,13 @@ pub enum Rule {
 fn target_broken(code: u8, target: u8) -> bool
     ensures { result ≡ target_broken code target }
 {
-    if code < 6 {
-        return false;
-    }
-    target != 0
+    6 <= code && target != 0
 }
 
 fn zero_broken(code: u8, number: u32) -> bool
     ensures { result ≡ zero_broken code number }
 {
-    match code {
-        2 => number != 0,
-        5 => number != 0,
-        8 => number != 0,
-        _ => false,
-    }
+    matches!(code, 2 | 5 | 8) && number != 0
 }
 
 fn size_broken(code: u8, number: u32) -> bool
@@ -42,23 +34,21 @@ fn size_broken(code: u8, number: u32) -> bool
     }
 }
 
-pub fn broken_rule(code: u8, target: u8, number: u32) -> Rule
+// The first rule that an operation breaks, if it breaks one.
+pub fn broken_rule(code: u8, target: u8, number: u32) -> Option<Rule>
     ensures { result ≡ broken_rule code target number }
 {
-    if code == 0 {
-        return Rule::Code;
-    }
-    if 9 < code {
-        return Rule::Code;
+    if code == 0 || 9 < code {
+        return Some(Rule::Code);
     }
     if target_broken(code, target) {
-        return Rule::Target;
+        return Some(Rule::Target);
     }
     if zero_broken(code, number) {
-        return Rule::NumberNotZero;
+        return Some(Rule::NumberNotZero);
     }
     if size_broken(code, number) {
-        return Rule::NumberTooLarge;
+        return Some(Rule::NumberTooLarge);
     }
-    Rule::None
+    None
 }

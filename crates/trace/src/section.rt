@@ -2,32 +2,13 @@
 ghost use Rattle.std.specs.Prelude.{◌≡◌};
 ghost use Rattle.trace.specs.Sizes.{checkpoints_of};
 ghost use Rattle.trace.specs.Section.{checkpoint_place, section_begun, section_three};
-ghost use Rattle.trace.specs.Judgement.{refused_at};
-ghost use Rattle.trace.specs.Inner.{fault_judged};
-ghost use Rattle.refusal.specs.Refusal.{refusal_number};
+ghost use Rattle.trace.specs.Answer.{judged};
 
+use crate::head::field;
 use crate::operation::place_of;
-use crate::{CHECKPOINT_EVERY, COUNT_SIZE, Fault, Within};
+use crate::{CHECKPOINT_EVERY, COUNT_SIZE, Fault};
 use board_encoding::BOARD_SIZE;
-use numbers::number_at;
 use refusal::Refusal;
-
-// The first fault, if there is one.
-#[derive(Clone, Copy)]
-pub(crate) enum Found {
-    Fault(Fault),
-    None,
-}
-
-fn fault(refusal: Refusal, place: usize) -> Found
-    ensures { fault_judged result ≡ refused_at (refusal_number refusal) place }
-{
-    Found::Fault(Fault {
-        refusal,
-        place,
-        within: Within::Outside,
-    })
-}
 
 // How many checkpoints so many operations have.
 pub fn checkpoints_of(operations: u32) -> u32
@@ -52,25 +33,22 @@ pub fn section_begun(bytes: &[u8], operations: u32) -> bool
 
 // Refusals 9, 17 and 13.
 #[tactic(auto, unfolding(crate::specs::Section::section_three))]
-pub(crate) fn section_three(bytes: &[u8], operations: u32) -> Found
-    ensures { fault_judged result ≡ section_three bytes.now operations }
+pub(crate) fn section_three(bytes: &[u8], operations: u32) -> Result<(), Fault>
+    ensures { judged result ≡ section_three bytes.now operations }
 {
     let place = place_of(operations);
     if bytes.len() <= place {
-        return Found::None;
+        return Ok(());
     }
-    if bytes.len() < place + COUNT_SIZE {
-        return fault(Refusal::TraceEnds, bytes.len());
-    }
-    if number_at(bytes, place) != checkpoints_of(operations) {
-        return fault(Refusal::CheckpointCount, place);
+    if field(bytes, place)? != checkpoints_of(operations) {
+        return Err(Fault::outside(Refusal::CheckpointCount, place));
     }
     let end = checkpoint_place(operations, checkpoints_of(operations));
     if bytes.len() < end {
-        return fault(Refusal::TraceEnds, bytes.len());
+        return Err(Fault::outside(Refusal::TraceEnds, bytes.len()));
     }
     if end < bytes.len() {
-        return fault(Refusal::BytesAfter, end);
+        return Err(Fault::outside(Refusal::BytesAfter, end));
     }
-    Found::None
+    Ok(())
 }

@@ -1,5 +1,3 @@
 pub mod Apart
-pub mod Grown
 pub mod Rows
-pub mod Sentence
 pub mod Short

@@ -1,25 +1,22 @@
 -- A fault of a trace as a sentence: where it stands, the rule that is broken, and what stands there. As in
 --   operation 12, byte 90: a gate's level is 0 or 1; here it is 2
-use Rattle.std.specs.Prelude.{ℕ, ◌+◌, ◌-◌, Bool, cond, ◌||◌, List, [], ◌∷◌, ◌++◌, eqb, ltb, length, get_or, replicate}
+use Rattle.std.specs.Prelude.{ℕ, ◌+◌, Bool, cond, ◌||◌, List, [], ◌∷◌, ◌++◌, eqb, ltb, length, get_or, Option, None, Some}
 use Rattle.numbers.specs.Number.{number_at}
-use Rattle.trace.specs.declared.Within.{Within}
-use Rattle.trace.specs.declared.Within.TheVariants.{Outside, InOperation}
 use Rattle.trace.specs.Judgement.{Faulted}
 use Rattle.trace.specs.Operation.{place_of}
 use Rattle.text.specs.Ascii.{ascii}
 use Rattle.text.specs.Number.{decimal}
 use Rattle.line.specs.Lines.{newline}
-use Rattle.words.specs.declared.faults.FaultSentence.{FaultSentence}
 use Rattle.words.specs.Refusals.{Row, row, words_in, refusal_words}
 
 -- "the operation's index, counted from 0" (02, L8), where the fault stands inside one
-abbrev pub which_words : Within → List ℕ
-which_words Outside = []
-which_words (InOperation index) = ascii "operation " ++ decimal index ++ ascii ", "
+abbrev pub which_words : Option ℕ → List ℕ
+which_words None = []
+which_words (Some index) = ascii "operation " ++ decimal index ++ ascii ", "
 
 -- .. "beside the byte offset"
-unfoldable pub where_words : Within → ℕ → List ℕ
-where_words within place = which_words within ++ ascii "byte " ++ decimal place ++ ascii ": "
+unfoldable pub where_words : Option ℕ → ℕ → List ℕ
+where_words operation place = which_words operation ++ ascii "byte " ++ decimal place ++ ascii ": "
 
 -- "Target 0 for 6, 7, 8."; "Trace code 9, target 0" (02, L1)
 abbrev pub target_rows : List Row
@@ -43,9 +40,9 @@ unfoldable pub rule_words : ℕ → ℕ → List ℕ
 rule_words number code = words_in (rules_of number) code (refusal_words number)
 
 -- the code of the operation that a fault stands in, its first byte; 0, which is no code, where it stands in none
-abbrev pub code_in : List ℕ → Within → ℕ
-code_in trace Outside = 0
-code_in trace (InOperation index) = get_or trace (place_of index) 0
+abbrev pub code_in : List ℕ → Option ℕ → ℕ
+code_in trace None = 0
+code_in trace (Some index) = get_or trace (place_of index) 0
 
 -- text, and the byte at a place; nothing where the trace has no byte there
 abbrev pub byte_there : List ℕ → List ℕ → ℕ → List ℕ
@@ -75,13 +72,9 @@ there_words number trace place =
 -- a fault of a trace in words
 unfoldable pub fault_sentence : List ℕ → Faulted → List ℕ
 fault_sentence trace f =
-    where_words f.within f.place ++ rule_words f.number (code_in trace f.within) ++ there_words f.number trace f.place
+    where_words f.operation f.place ++ rule_words f.number (code_in trace f.operation) ++ there_words f.number trace f.place
     ++ newline
 
 -- room for every such sentence
 abbrev pub fault_room : ℕ
 fault_room = 160
-
--- the text, then zeros up to the room
-unfoldable pub sentence_of : List ℕ → FaultSentence
-sentence_of text = record { bytes = text ++ replicate (fault_room - length text) 0; len = length text }

@@ -1,73 +1,59 @@
 // A fault of a trace as a sentence: where it stands, the rule that is broken (rules.rt), and what stands there (there.rt).
-ghost use Rattle.std.specs.Prelude.{◌≡◌, ◌+◌, ◌≤◌, length, take};
-ghost use Rattle.text.specs.Put.{put, answered};
-ghost use Rattle.line.specs.Line.{line_of};
+ghost use Rattle.std.specs.Prelude.{◌≡◌, ◌++◌, ◌≤◌, length, take};
+ghost use Rattle.line.specs.Line.{line_room};
 ghost use Rattle.trace.specs.Answer.{fault_of};
-ghost use Rattle.words.specs.Faults.{which_words, where_words, fault_sentence, fault_room, sentence_of};
+ghost use Rattle.words.specs.Faults.{which_words, where_words, fault_sentence, fault_room};
 ghost use Rattle.words.specs.Inner.{which_room, where_room};
 
-use crate::pieces::{empty, with_number, with_text};
 use crate::rules::{code_in, rule_words};
 use crate::there::there_words;
 use line::Line;
-use trace::{Fault, Within};
+use text::Text;
+use trace::Fault;
 
 // No sentence has more bytes.
 pub const FAULT_ROOM: usize = 160;
 
-// Bytes of a sentence and then zeros; the sentence ends at len.
-#[derive(Clone, Copy)]
-pub struct FaultSentence {
-    pub bytes: [u8; FAULT_ROOM],
-    pub len: usize,
-}
+pub type FaultSentence = Text<FAULT_ROOM>;
 
-fn with_which(line: Line, within: Within) -> Line
-    requires { line.len + which_room ≤ length line.bytes }
-    ensures { (answered result.len result.bytes ≡ put (which_words within) line.bytes line.len) × (length (which_words within) ≤ which_room) }
+fn push_which(line: &mut Line, operation: Option<u32>)
+    ensures says { line.new ≡ take line_room (line.old ++ which_words operation) }
+    ensures fits { length (which_words operation) ≤ which_room }
 {
-    match within {
-        Within::Outside => line,
-        Within::InOperation(index) => {
-            let mut next = with_text(line, b"operation ");
-            next = with_number(next, index as u64);
-            with_text(next, b", ")
+    match operation {
+        None => line.push(b""),
+        Some(index) => {
+            line.push(b"operation ");
+            line.push_decimal(u64::from(index));
+            line.push(b", ");
         }
     }
 }
 
-fn where_words(within: Within, place: usize) -> Line
-    ensures { (result ≡ line_of (where_words within place)) × (length (where_words within place) ≤ where_room) }
+fn where_words(operation: Option<u32>, place: usize) -> Line
+    ensures says { result ≡ where_words operation place }
+    ensures fits { length (where_words operation place) ≤ where_room }
 {
-    let mut line = with_which(empty(), within);
-    line = with_text(line, b"byte ");
-    line = with_number(line, place as u64);
-    with_text(line, b": ")
-}
-
-fn put_line(out: &mut [u8], place: usize, line: Line) -> usize
-    requires { line.len ≤ length line.bytes }
-    ensures { answered result out.new ≡ put (take line.len line.bytes) out.old place }
-{
-    let bytes = line.bytes;
-    let len = line.len;
-    text::put(out, place, &bytes[..len])
+    let mut line = Line::new();
+    push_which(&mut line, operation);
+    line.push(b"byte ");
+    line.push_decimal(place as u64);
+    line.push(b": ");
+    line
 }
 
 // The fault may be any, and of any trace: what the trace does not have is not shown.
 pub fn fault_sentence(trace: &[u8], fault: Fault) -> FaultSentence
-    ensures { (result ≡ sentence_of (fault_sentence trace.now (fault_of fault))) × (length (fault_sentence trace.now (fault_of fault)) ≤ fault_room) }
+    ensures says { result ≡ fault_sentence trace.now (fault_of fault) }
+    ensures fits { length (fault_sentence trace.now (fault_of fault)) ≤ fault_room }
 {
-    let refusal = fault.refusal;
-    let within = fault.within;
-    let number = refusal.number();
-    let lead = where_words(within, fault.place);
-    let rule = rule_words(number, code_in(trace, within));
-    let there = there_words(number, trace, fault.place);
-    let mut bytes = [0u8; FAULT_ROOM];
-    let mut len = put_line(&mut bytes, 0, lead);
-    len = put_line(&mut bytes, len, rule);
-    len = put_line(&mut bytes, len, there);
-    len = text::put(&mut bytes, len, b"\n");
-    FaultSentence { bytes, len }
+    let lead = where_words(fault.operation, fault.place);
+    let rule = rule_words(fault.refusal, code_in(trace, fault.operation));
+    let there = there_words(fault.refusal, trace, fault.place);
+    let mut sentence = FaultSentence::new();
+    sentence.push(lead.as_bytes());
+    sentence.push(rule.as_bytes());
+    sentence.push(there.as_bytes());
+    sentence.push(b"\n");
+    sentence
 }

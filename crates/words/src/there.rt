@@ -1,77 +1,56 @@
 // What stands at a place of a trace.
 ghost use Rattle.std.specs.Prelude.{◌≡◌, ◌≤◌, length};
-ghost use Rattle.line.specs.Line.{line_of};
-ghost use Rattle.words.specs.Faults.{byte_there, number_there, of_byte, of_number, there_words};
+ghost use Rattle.refusal.specs.Refusal.{refusal_number};
+ghost use Rattle.words.specs.Faults.{byte_there, number_there, there_words};
 ghost use Rattle.words.specs.Inner.{there_room};
 
-use crate::pieces::{empty, with_number, with_text};
 use crate::said;
 use line::Line;
 use numbers::number_at;
+use refusal::Refusal;
 
 fn byte_there(text: &[u8], trace: &[u8], place: usize) -> Line
     requires { length text.now ≤ 15 }
-    ensures { (result ≡ line_of (byte_there text.now trace.now place)) × (length (byte_there text.now trace.now place) ≤ there_room) }
+    ensures says { result ≡ byte_there text.now trace.now place }
+    ensures fits { length (byte_there text.now trace.now place) ≤ there_room }
 {
-    if trace.len() <= place {
-        return empty();
+    let mut line = Line::new();
+    if place < trace.len() {
+        line.push(text);
+        line.push_decimal(u64::from(trace[place]));
     }
-    let line = with_text(empty(), text);
-    with_number(line, trace[place] as u64)
+    line
 }
 
 // The place may be any: its end is not computed, since it can be past the largest number.
 fn number_there(trace: &[u8], place: usize) -> Line
-    ensures { (result ≡ line_of (number_there trace.now place)) × (length (number_there trace.now place) ≤ there_room) }
+    ensures says { result ≡ number_there trace.now place }
+    ensures fits { length (number_there trace.now place) ≤ there_room }
 {
-    if trace.len() < place {
-        return empty();
+    let mut line = Line::new();
+    if 4 <= trace.len().saturating_sub(place) {
+        line.push(b"; here it is ");
+        line.push_decimal(u64::from(number_at(trace, place)));
     }
-    if trace.len() - place < 4 {
-        return empty();
-    }
-    let line = with_text(empty(), b"; here it is ");
-    with_number(line, number_at(trace, place) as u64)
+    line
 }
 
-fn of_byte(number: u8) -> bool
-    ensures { result ≡ of_byte number }
+#[tactic(auto, unfolding(crate::specs::Faults::there_words))]
+pub(crate) fn there_words(refusal: Refusal, trace: &[u8], place: usize) -> Line
+    ensures says { result ≡ there_words (refusal_number refusal) trace.now place }
+    ensures fits { length (there_words (refusal_number refusal) trace.now place) ≤ there_room }
 {
-    match number {
-        12 => true,
-        19 => true,
-        _ => false,
+    match refusal {
+        Refusal::TraceEnds => said(b"; here the trace ends"),
+        Refusal::BytesAfter => byte_there(b"; the first is ", trace, place),
+        // A byte.
+        Refusal::UnknownCode | Refusal::TargetNotZero => byte_there(b"; here it is ", trace, place),
+        // A number.
+        Refusal::SettingsCount
+        | Refusal::TooManyOperations
+        | Refusal::CheckpointCount
+        | Refusal::NumberNotZero
+        | Refusal::TooLarge => number_there(trace, place),
+        _ => Line::new(),
     }
-}
-
-fn of_number(number: u8) -> bool
-    ensures { result ≡ of_number number }
-{
-    match number {
-        10 => true,
-        11 => true,
-        17 => true,
-        20 => true,
-        21 => true,
-        _ => false,
-    }
-}
-
-#[tactic(auto, unfolding(crate::specs::Faults::there_words, line::specs::Line::line_of))]
-pub(crate) fn there_words(number: u8, trace: &[u8], place: usize) -> Line
-    ensures { (result ≡ line_of (there_words number trace.now place)) × (length (there_words number trace.now place) ≤ there_room) }
-{
-    if number == 9 {
-        return said(b"; here the trace ends");
-    }
-    if number == 13 {
-        return byte_there(b"; the first is ", trace, place);
-    }
-    if of_byte(number) {
-        return byte_there(b"; here it is ", trace, place);
-    }
-    if of_number(number) {
-        return number_there(trace, place);
-    }
-    empty()
 }

@@ -1,36 +1,26 @@
-use Prim.Native.Nat.{◌<◌}
 use native.Mathlib.Omega.{arith}
-use lib.ListN.{length-append, replicate}
+use lib.ListN.{length-append}
+use Rattle.std.proofs.Common.{◌≤◌, ◌++◌, length}
 use Rattle.text.specs.Ascii.{ascii}
 use Rattle.text.specs.Number.{decimal}
 use Rattle.text.proofs.Decimal.{decimal-u8, decimal-u64}
-use Rattle.text.proofs.Puts.{wrote, and_then}
+use Rattle.text.proofs.Rooms.{first, and_pushed, and_number, said}
 use Rattle.line.specs.Line.{line_room}
+use Rattle.std.proofs.Common.{◌<◌}
 use Rattle.line.specs.Lines.{newline, within_text, fault_line}
-use Rattle.line.proofs.Ends.{line-text, room-behind}
 use Rattle.line.proofs.fault_line.Goals as goal
 
 pub returns : goal.returns
 unfolding fault_line
 returns c =
-    let n = c.number in
+    let n = c.number.result in
     let at = c.args.fault.place in
-    let fits : at < 18446744073709551616 = c.well_formed.0.1.1.1.0.1 in
-    let words = wrote (ascii "trace refused ") (replicate line_room 0) 0 _ _ c.put-place.ensures in
-    let number = and_then words (decimal n.result) _ _ c.put_decimal-place.ensures in
-    let word = and_then number (ascii " at ") _ _ c.put-place-2.ensures in
-    let place = and_then word (decimal at) _ _ c.put_decimal-place-2.ensures in
-    let index = and_then place (within_text c.args.fault.within) _ _ c.put_within-place.ensures.0 in
-    let whole = and_then index newline _ _ c.put-place-3.ensures in
-    rw (← n.ensures) (line-text whole (simp length-append (omega (arith, decimal-u8 n.result (omega arith), decimal-u64 at fits, c.put_within-place.ensures.1))))
-
-pub put_within-place-requires : goal.put_within-place-requires
-put_within-place-requires c =
-    let n = c.number in
-    let at = c.args.fault.place in
-    let fits : at < 18446744073709551616 = c.well_formed.0.1.1.1.0.1 in
-    let words = wrote (ascii "trace refused ") (replicate line_room 0) 0 _ _ c.put-place.ensures in
-    let number = and_then words (decimal n.result) _ _ c.put_decimal-place.ensures in
-    let word = and_then number (ascii " at ") _ _ c.put-place-2.ensures in
-    let place = and_then word (decimal at) _ _ c.put_decimal-place-2.ensures in
-    room-behind {room = line_room} place (omega arith) 21 (simp length-append (omega (arith, decimal-u8 n.result (omega arith), decimal-u64 at fits)))
+    let place : at < 18446744073709551616 = omega arith in
+    let fits : length (ascii "trace refused " ++ decimal n ++ ascii " at " ++ decimal at ++ within_text c.args.fault.operation ++ newline) ≤ line_room = simp length-append (omega (arith, decimal-u8 n (omega arith), decimal-u64 at place, c.push_within.ensures.fits)) in
+    let t1 = first {room = line_room} {before = c.new-line.result} (ascii "trace refused ") c.push.new.self c.push.ensures in
+    let t2 = and_number t1 n c.from.result c.push_decimal.new.self c.from.ensures c.push_decimal.ensures in
+    let t3 = and_pushed t2 (ascii " at ") c.push-2.new.self c.push-2.ensures in
+    let t4 = and_pushed t3 (decimal at) c.push_decimal-2.new.self c.push_decimal-2.ensures in
+    let t5 = and_pushed t4 (within_text c.args.fault.operation) c.push_within.new.line c.push_within.ensures.says in
+    let t6 = and_pushed t5 (newline) c.push-3.new.self c.push-3.ensures in
+    rw (← c.number.ensures) (record { says = said t6 c.new-line.ensures fits; fits = fits })

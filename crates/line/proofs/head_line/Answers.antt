@@ -1,22 +1,21 @@
 use native.Mathlib.Omega.{arith}
-use lib.ListN.{length-append, replicate}
+use lib.ListN.{length-append}
+use Rattle.std.proofs.Common.{◌≤◌, ◌++◌, length}
 use Rattle.text.specs.Ascii.{ascii}
 use Rattle.text.specs.Number.{decimal}
 use Rattle.text.proofs.Decimal.{decimal-u32}
-use Rattle.text.proofs.Puts.{wrote, and_then}
+use Rattle.text.proofs.Rooms.{first, and_pushed, and_number, said}
 use Rattle.line.specs.Line.{line_room}
 use Rattle.line.specs.Lines.{newline, head_line}
-use Rattle.line.proofs.Ends.{line-text}
 use Rattle.line.proofs.head_line.Goals as goal
 
 pub returns : goal.returns
 unfolding head_line
 returns c =
-    let m = c.model_name-name in
-    let a = c.args in
-    let pit = wrote (ascii "pit ") (replicate line_room 0) 0 _ _ c.put-place.ensures in
-    let name = and_then pit m.result _ _ c.put-place-2.ensures in
-    let word = and_then name (ascii " divisor ") _ _ c.put-place-3.ensures in
-    let number = and_then word (decimal a.divisor) _ _ c.put_decimal-place.ensures in
-    let whole = and_then number newline _ _ c.put-place-4.ensures in
-    rw (← m.ensures) (line-text whole (simp length-append (omega (arith, decimal-u32 a.divisor (omega arith)))))
+    let fits : length (ascii "pit " ++ c.model_name.result ++ ascii " divisor " ++ decimal c.args.divisor ++ newline) ≤ line_room = simp length-append (omega (arith, decimal-u32 c.args.divisor (omega arith))) in
+    let t1 = first {room = line_room} {before = c.new-line.result} (ascii "pit ") c.push.new.self c.push.ensures in
+    let t2 = and_pushed t1 (c.model_name.result) c.push-2.new.self c.push-2.ensures in
+    let t3 = and_pushed t2 (ascii " divisor ") c.push-3.new.self c.push-3.ensures in
+    let t4 = and_number t3 c.args.divisor c.from.result c.push_decimal.new.self c.from.ensures c.push_decimal.ensures in
+    let t5 = and_pushed t4 (newline) c.push-4.new.self c.push-4.ensures in
+    rw (← c.model_name.ensures) (record { says = said t5 c.new-line.ensures fits; fits = fits })

@@ -1,14 +1,10 @@
-use Rattle.line.specs.Said.{sentence_text}
-use Rattle.line.proofs.Back.{line-fits}
-use Rattle.runner.proofs.Whole.{line-put}
+use Rattle.std.proofs.Common.{◌∙◌, ap}
+use Rattle.text.specs.Put.{put}
 use Rattle.runner.proofs.put_sentence.Goals as goal
-
-pub put_line-requires : goal.put_line-requires
-put_line-requires c = line-fits _ _ c.line_of-line.ensures.0
 
 pub returns : goal.returns
 returns c =
     record {
-      told = line-put _ (sentence_text c.args.sentence) _ _ _ _ c.line_of-line.ensures.0 c.put_line.ensures;
-      short = c.line_of-line.ensures.1;
+      told = c.put.ensures ∙ ap (λ t. put t c.args.out.now c.args.place) (c.as_bytes.ensures.text ∙ c.line_of-line.ensures.says);
+      short = c.line_of-line.ensures.fits;
     }

@@ -20,7 +20,7 @@ returns c =
     let same = put-length line out 0 _ _ head.told in
     let one = wrote line out 0 _ _ head.told in
     let place = wrote-place one (omega (arith, c.requires.operations_in_bounds, head.short)) in
-    let made = c.new-made.result.board in
+    let made = c.new.result.board in
     let operations = to_tell a.trace.now 0 a.head.operations in
     -- the lines have room behind the head
     let lines =
@@ -28,7 +28,7 @@ returns c =
     c.tell-told.new.out c.tell-told.ensures (omega (arith, c.requires.operations_in_bounds, same, place, head.short)) in
     let last = c.put_sentence.ensures in
     let board : made ≡ fresh a.head.model a.head.divisor =
-    ap (λ (o : Outcome). o.board) c.new-made.ensures ∙ new-board a.head.model a.head.divisor in
+    ap (λ (o : Outcome). o.board) c.new.ensures ∙ new-board a.head.model a.head.divisor in
     let many = as-many-as a.trace.now 0 a.head.operations c.requires.operations_value in
     let two = and_then one (told_from Lines made 0 operations) _ _ lines.told in
     let three = and_then two (end_line a.head.operations) _ _ last.told in

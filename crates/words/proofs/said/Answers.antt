@@ -1,8 +1,5 @@
-use Rattle.text.proofs.Puts.{wrote}
-use Rattle.words.proofs.Grown.{grown}
+use Rattle.text.proofs.Rooms as rooms
 use Rattle.words.proofs.said.Goals as goal
 
 pub returns : goal.returns
-returns c =
-    let l = c.empty.result in
-    (grown l c.empty.ensures (wrote c.args.text.now l.bytes l.len _ _ c.with_text.ensures) c.requires).0
+returns c = rooms.said (rooms.first c.args.text.now _ c.push.ensures) c.new-line.ensures c.requires

@@ -1,4 +1,5 @@
 use mathlib.Core.Path.{◌≡◌, refl, sym, ap, ◌∙◌}
+use Rattle.std.proofs.lemmas.Result.{err_from_is_err_and}
 use Rattle.trace.specs.Answer.{fault_of}
 use Rattle.trace.proofs.Sound.{judged-sound, judged-refused}
 use Rattle.checkpoint.specs.Boards.{size, checkpoints_in}
@@ -11,19 +12,21 @@ use Rattle.checkpoint.proofs.checking.check.Goals as goal
 
 pub compare-requires : goal.compare-requires
 compare-requires c =
-    let sure = judged-sound c.args.trace.now c.in-Sound.head (sym c.in-Sound.ensures) in
-    rw c.checkpoints_in-number.ensures (standing c.args.trace.now c.in-Sound.head.operations sure.section-sound)
+    let sure = judged-sound c.args.trace.now c.in_ok-head.head (sym c.in_ok-head.ensures) in
+    rw c.checkpoints_in.ensures (standing c.args.trace.now c.in_ok-head.head.operations sure.section-sound)
 
-pub returns-in-Refused : goal.returns-in-Refused
+pub returns-in_err-head : goal.returns-in_err-head
 unfolding check
-returns-in-Refused c = rw (judged-refused _ (fault_of c.in-Refused.fault) (sym c.in-Refused.ensures)) refl
+returns-in_err-head c =
+    let p = err_from_is_err_and c.from_residual.result c.from_residual.ensures.1 in
+    rw (p.1, p.2) (rw (judged-refused _ (fault_of c.in_err-head.field-0.0) (sym c.in_err-head.ensures)) refl)
 
-pub returns-in-Sound : goal.returns-in-Sound
+pub returns : goal.returns
 unfolding check
-returns-in-Sound c =
+returns c =
     let trace = c.args.trace.now in
-    let head = c.in-Sound.head in
-    let sure = judged-sound trace head (sym c.in-Sound.ensures) in
+    let head = c.in_ok-head.head in
+    let sure = judged-sound trace head (sym c.in_ok-head.ensures) in
     let many : size (trace_found trace head) ≡ head.operations = found-length trace 0 head.operations in
     rw (trace-found trace head sure)
-    (c.compare.ensures ∙ ap (check_first trace (trace_found trace head)) (c.checkpoints_in-number.ensures ∙ ap (checkpoints_in trace) (sym many)))
+    (c.compare.ensures ∙ ap (check_first trace (trace_found trace head)) (c.checkpoints_in.ensures ∙ ap (checkpoints_in trace) (sym many)))

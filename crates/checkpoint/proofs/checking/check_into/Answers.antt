@@ -17,5 +17,5 @@ pub returns : goal.returns
 unfolding check_into
 returns c =
     let a = c.args in
-    front (sentence_text c.sentence_of-sentence.result) line_room a.out.now _ _ c.put_sentence.ensures c.if-out-lt-LINE_ROOM.false
-    ∙ ap (λ (text : List ℕ). in_room line_room text a.out.now) (c.sentence_of-sentence.ensures ∙ ap checked_text c.check-checked.ensures)
+    front (sentence_text c.sentence_of.result) line_room a.out.now _ _ c.put_sentence.ensures c.if-out-lt-LINE_ROOM.false
+    ∙ ap (λ (text : List ℕ). in_room line_room text a.out.now) (c.sentence_of.ensures ∙ ap checked_text c.check.ensures)

@@ -1,13 +1,8 @@
-use Rattle.std.proofs.Common.{◌-◌, ◌≡◌, ◌≤◌}
+use Rattle.std.proofs.Common.{◌-◌, ◌≡◌}
 use Rattle.checkpoint.specs.Inner.{check_rest}
 use Rattle.checkpoint.proofs.checking.compare.Given as goal
 
 -- what is left to compare decides
 abbrev pub invariant-loop-k : goal.invariant-loop-k
-invariant-loop-k l = record {
-  within : l.k ≤ l.number;
-  same : check_rest l.trace l.operations l.board l.k (l.number - l.k) ≡ check_rest l.trace l.operations l.initial.board 0 l.number;
-}
-
-abbrev pub decreases-loop-k : goal.decreases-loop-k
-decreases-loop-k l = l.number - l.k
+invariant-loop-k l =
+    check_rest l.trace l.fn.head.operations l.board l.k (l.fn.number - l.k) ≡ check_rest l.trace l.fn.head.operations l.initial.board 0 l.fn.number

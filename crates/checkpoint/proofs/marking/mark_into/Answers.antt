@@ -20,16 +20,16 @@ use Rattle.checkpoint.proofs.Lengths.{marked-length}
 use Rattle.checkpoint.proofs.Whole.{trace-found}
 use Rattle.checkpoint.proofs.marking.mark_into.Goals as goal
 
-pub returns-in-Refused : goal.returns-in-Refused
+pub returns-in-Err : goal.returns-in-Err
 unfolding mark_into mark
-returns-in-Refused c = rw (judged-refused _ (fault_of c.in-Refused.fault) (sym c.in-Refused.ensures)) refl
+returns-in-Err c = rw (judged-refused _ (fault_of c.in-Err.fault) (sym c.in-Err.ensures)) refl
 
 pub returns-then-out-checkpoint_place : goal.returns-then-out-checkpoint_place
 unfolding mark_into mark
 returns-then-out-checkpoint_place c =
     let bytes = c.args.trace.now in
-    let head = c.in-Sound.head in
-    let sure = judged-sound bytes head (sym c.in-Sound.ensures) in
+    let head = c.in-Ok.head in
+    let sure = judged-sound bytes head (sym c.in-Ok.ensures) in
     let is_sound : read_trace bytes ≡ sound (trace_found bytes head) = trace-found bytes head sure in
     let many : size (trace_found bytes head) ≡ head.operations = found-length bytes 0 head.operations in
     let long : c.checkpoint_place.result ≡ section_end head.operations
@@ -43,8 +43,8 @@ returns-then-out-checkpoint_place c =
 pub mark_sound-requires-clause-operations_in_bounds : goal.mark_sound-requires-clause-operations_in_bounds
 mark_sound-requires-clause-operations_in_bounds c =
     let bytes = c.args.trace.now in
-    let head = c.in-Sound.head in
-    let sure = judged-sound bytes head (sym c.in-Sound.ensures) in
+    let head = c.in-Ok.head in
+    let sure = judged-sound bytes head (sym c.in-Ok.ensures) in
     let is_sound : read_trace bytes ≡ sound (trace_found bytes head) = trace-found bytes head sure in
     let many : size (trace_found bytes head) ≡ head.operations = found-length bytes 0 head.operations in
     let long : c.checkpoint_place.result ≡ section_end head.operations
@@ -58,8 +58,8 @@ mark_sound-requires-clause-operations_in_bounds c =
 pub mark_sound-requires-clause-operations_in_bounds_2 : goal.mark_sound-requires-clause-operations_in_bounds_2
 mark_sound-requires-clause-operations_in_bounds_2 c =
     let bytes = c.args.trace.now in
-    let head = c.in-Sound.head in
-    let sure = judged-sound bytes head (sym c.in-Sound.ensures) in
+    let head = c.in-Ok.head in
+    let sure = judged-sound bytes head (sym c.in-Ok.ensures) in
     let is_sound : read_trace bytes ≡ sound (trace_found bytes head) = trace-found bytes head sure in
     let many : size (trace_found bytes head) ≡ head.operations = found-length bytes 0 head.operations in
     let long : c.checkpoint_place.result ≡ section_end head.operations
@@ -74,8 +74,8 @@ pub returns-else-out-checkpoint_place : goal.returns-else-out-checkpoint_place
 unfolding mark_into mark
 returns-else-out-checkpoint_place c =
     let bytes = c.args.trace.now in
-    let head = c.in-Sound.head in
-    let sure = judged-sound bytes head (sym c.in-Sound.ensures) in
+    let head = c.in-Ok.head in
+    let sure = judged-sound bytes head (sym c.in-Ok.ensures) in
     let is_sound : read_trace bytes ≡ sound (trace_found bytes head) = trace-found bytes head sure in
     let many : size (trace_found bytes head) ≡ head.operations = found-length bytes 0 head.operations in
     let long : c.checkpoint_place.result ≡ section_end head.operations

@@ -16,8 +16,7 @@ loop-k-init c =
     let a = c.args in
     let all : a.number - 0 ≡ a.number = omega arith in
     record {
-      within = omega arith;
-      same = ap (λ (left : ℕ). put (boards_rest a.trace.now c.new-made.result.board 0 left) a.out.now a.place) all;
+      same = ap (λ (left : ℕ). put (boards_rest a.trace.now c.new.result.board 0 left) a.out.now a.place) all;
       room = omega (arith, c.requires.number_in_bounds);
       long = refl;
     }
@@ -34,7 +33,6 @@ loop-k-preserved c =
     = c.board_after-board.ensures ∙ ap (λ (n : ℕ). make_all l.board (found_from a.trace.now (256 * l.k) n)) size in
     let text = c.put-at.ensures ∙ ap (λ (text : List ℕ). put text l.out l.at) c.board_bytes-bytes.ensures in
     record {
-      within = omega (arith, c.loop-k-test.true);
       same = boards-go-on a.trace.now l.board c.board_after-board.result l.k a.number c.loop-k-test.true made l.out l.at _ _ text l.invariant.room ∙ l.invariant.same;
       room = room_after a.trace.now l.board c.board_after-board.result l.k a.number c.loop-k-test.true made l.out l.at _ _ text l.invariant.room;
       long = put-length _ l.out l.at _ _ text ∙ l.invariant.long;
@@ -45,8 +43,8 @@ returns c =
     let l = c.loop-k in
     let a = c.args in
     let none : a.number - l.k ≡ 0 = omega (arith, c.loop-k-test.false) in
-    let board = ap (λ (o : Outcome). o.board) c.new-made.ensures ∙ new-board a.head.model a.head.divisor in
-    let all : boards_rest a.trace.now c.new-made.result.board 0 a.number ≡ boards_from (trace_found a.trace.now a.head) 0 a.number
+    let board = ap (λ (o : Outcome). o.board) c.new.ensures ∙ new-board a.head.model a.head.divisor in
+    let all : boards_rest a.trace.now c.new.result.board 0 a.number ≡ boards_from (trace_found a.trace.now a.head) 0 a.number
     = rw board (rest-boards a.trace.now a.head 0 a.number (omega (arith, c.requires.number_bound))) in
     sym (put-nothing l.out l.at)
     ∙ ap (λ (left : ℕ). put (boards_rest a.trace.now l.board l.k left) l.out l.at) (sym none)

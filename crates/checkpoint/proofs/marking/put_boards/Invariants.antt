@@ -7,11 +7,7 @@ use Rattle.checkpoint.proofs.marking.put_boards.Given as goal
 -- what is left to put decides
 abbrev pub invariant-loop-k : goal.invariant-loop-k
 invariant-loop-k l = record {
-  within : l.k ≤ l.number;
   same : put (boards_rest l.trace l.board l.k (l.number - l.k)) l.out l.at ≡ put (boards_rest l.trace l.initial.board 0 l.number) l.initial.out l.place;
   room : l.at + board_size * (l.number - l.k) ≤ length l.out;
   long : length l.out ≡ length l.initial.out;
 }
-
-abbrev pub decreases-loop-k : goal.decreases-loop-k
-decreases-loop-k l = l.number - l.k

@@ -12,17 +12,17 @@ use Rattle.checkpoint.proofs.Sections.{standing}
 use Rattle.checkpoint.proofs.From.{part-board, part_at, board-there, begins, from-refused, from-readable}
 use Rattle.checkpoint.proofs.starting.from_sound.Goals as goal
 
-pub returns-in-Refused : goal.returns-in-Refused
-returns-in-Refused c =
+pub returns-in-Err : goal.returns-in-Err
+returns-in-Err c =
     let a = c.args in
-    c.say_fault.ensures ∙ from-refused a.trace.now a.head a.k a.out.now (fault_of c.in-Refused.fault) (sym c.in-Refused.ensures)
+    c.say_fault.ensures ∙ from-refused a.trace.now a.head a.k a.out.now (fault_of c.in-Err.fault) (sym c.in-Err.ensures)
 
 pub slice_bounds-load_board-end : goal.slice_bounds-load_board-end
 slice_bounds-load_board-end c =
     let bytes = c.args.trace.now in
     let n = c.args.head.operations in
     let k = c.args.k in
-    let there : (k < checkpoints_in bytes n) × (board_readable (checkpoint_bytes bytes n k) ≡ true) = begins bytes n k (sym c.in-There.ensures) in
+    let there : (k < checkpoints_in bytes n) × (board_readable (checkpoint_bytes bytes n k) ≡ true) = begins bytes n k (sym c.in-Ok.ensures) in
     let stands : Standing bytes n (checkpoints_in bytes n) = standing bytes n c.requires in
     let few : operations_to k ≤ n = omega (arith, there.0, stands.few) in
     omega (arith, c.checkpoint_place-place.ensures, stands.whole k there.0)
@@ -32,7 +32,7 @@ overflow_mul-first c =
     let bytes = c.args.trace.now in
     let n = c.args.head.operations in
     let k = c.args.k in
-    let there : (k < checkpoints_in bytes n) × (board_readable (checkpoint_bytes bytes n k) ≡ true) = begins bytes n k (sym c.in-There.ensures) in
+    let there : (k < checkpoints_in bytes n) × (board_readable (checkpoint_bytes bytes n k) ≡ true) = begins bytes n k (sym c.in-Ok.ensures) in
     let stands : Standing bytes n (checkpoints_in bytes n) = standing bytes n c.requires in
     let few : operations_to k ≤ n = omega (arith, there.0, stands.few) in
     omega (arith, few)
@@ -42,7 +42,7 @@ overflow_add-first c =
     let bytes = c.args.trace.now in
     let n = c.args.head.operations in
     let k = c.args.k in
-    let there : (k < checkpoints_in bytes n) × (board_readable (checkpoint_bytes bytes n k) ≡ true) = begins bytes n k (sym c.in-There.ensures) in
+    let there : (k < checkpoints_in bytes n) × (board_readable (checkpoint_bytes bytes n k) ≡ true) = begins bytes n k (sym c.in-Ok.ensures) in
     let stands : Standing bytes n (checkpoints_in bytes n) = standing bytes n c.requires in
     let few : operations_to k ≤ n = omega (arith, there.0, stands.few) in
     omega (arith, few)
@@ -52,17 +52,17 @@ lines_from-requires c =
     let bytes = c.args.trace.now in
     let n = c.args.head.operations in
     let k = c.args.k in
-    let there : (k < checkpoints_in bytes n) × (board_readable (checkpoint_bytes bytes n k) ≡ true) = begins bytes n k (sym c.in-There.ensures) in
+    let there : (k < checkpoints_in bytes n) × (board_readable (checkpoint_bytes bytes n k) ≡ true) = begins bytes n k (sym c.in-Ok.ensures) in
     let stands : Standing bytes n (checkpoints_in bytes n) = standing bytes n c.requires in
     let few : operations_to k ≤ n = omega (arith, there.0, stands.few) in
     omega (arith, few)
 
-pub returns-in-There : goal.returns-in-There
-returns-in-There c =
+pub returns-in-Ok : goal.returns-in-Ok
+returns-in-Ok c =
     let bytes = c.args.trace.now in
     let n = c.args.head.operations in
     let k = c.args.k in
-    let there : (k < checkpoints_in bytes n) × (board_readable (checkpoint_bytes bytes n k) ≡ true) = begins bytes n k (sym c.in-There.ensures) in
+    let there : (k < checkpoints_in bytes n) × (board_readable (checkpoint_bytes bytes n k) ≡ true) = begins bytes n k (sym c.in-Ok.ensures) in
     let stands : Standing bytes n (checkpoints_in bytes n) = standing bytes n c.requires in
     let few : operations_to k ≤ n = omega (arith, there.0, stands.few) in
     let is = part-board bytes (checkpoint_place n k) (stands.whole k there.0) ∙ there.1 in

@@ -8,19 +8,19 @@ use Rattle.checkpoint.proofs.Whole.{trace-found}
 use Rattle.checkpoint.proofs.starting.replay_from_into.Goals as goal
 
 pub from_sound-requires : goal.from_sound-requires
-from_sound-requires c = (judged-sound _ c.in-Sound.head (sym c.in-Sound.ensures)).section-sound
+from_sound-requires c = (judged-sound _ c.in-Ok.head (sym c.in-Ok.ensures)).section-sound
 
-pub returns-in-Refused : goal.returns-in-Refused
+pub returns-in-Err : goal.returns-in-Err
 unfolding replay_from_into
-returns-in-Refused c =
+returns-in-Err c =
     let a = c.args in
-    let is = judged-refused a.trace.now (fault_of c.in-Refused.fault) (sym c.in-Refused.ensures) in
+    let is = judged-refused a.trace.now (fault_of c.in-Err.fault) (sym c.in-Err.ensures) in
     c.say_fault.ensures ∙ ap (λ (j : Judgement Trace). text_into (from_judged a.trace.now a.k j) a.out.now) (sym is)
 
-pub returns-in-Sound : goal.returns-in-Sound
+pub returns-in-Ok : goal.returns-in-Ok
 unfolding replay_from_into
-returns-in-Sound c =
+returns-in-Ok c =
     let a = c.args in
-    let head = c.in-Sound.head in
-    let is = trace-found a.trace.now head (judged-sound a.trace.now head (sym c.in-Sound.ensures)) in
+    let head = c.in-Ok.head in
+    let is = trace-found a.trace.now head (judged-sound a.trace.now head (sym c.in-Ok.ensures)) in
     c.from_sound.ensures ∙ ap (λ (j : Judgement Trace). text_into (from_judged a.trace.now a.k j) a.out.now) (sym is)

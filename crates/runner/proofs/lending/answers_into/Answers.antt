@@ -13,29 +13,29 @@ use Rattle.runner.proofs.Whole.{new-board, told-sound, prints}
 use Rattle.runner.proofs.Lent.{no-room, in-room, operations-are}
 use Rattle.runner.proofs.lending.answers_into.Goals as goal
 
-pub returns-then-out-number : goal.returns-then-out-number
+pub returns-then-out-head : goal.returns-then-out-head
 unfolding answers_into
-returns-then-out-number c =
+returns-then-out-head c =
     let a = c.args in
-    let head = c.in-Sound.head in
-    let whole = judged-sound a.trace.now head (sym c.in-Sound.ensures) in
+    let head = c.in-Ok.head in
+    let whole = judged-sound a.trace.now head (sym c.in-Ok.ensures) in
     rw whole.whole
     (rw (operations-are a.trace.now head whole)
-    (no-room _ (answers_of (trace_of head (to_tell a.trace.now 0 head.operations))) a.out.now c.if-out-number.true))
+    (no-room _ (answers_of (trace_of head (to_tell a.trace.now 0 head.operations))) a.out.now c.if-out-head.true))
 
-pub returns-in-Refused : goal.returns-in-Refused
+pub returns-in-Err : goal.returns-in-Err
 unfolding answers_into
-returns-in-Refused c = rw (judged-refused _ (fault_of c.in-Refused.fault) (sym c.in-Refused.ensures)) refl
+returns-in-Err c = rw (judged-refused _ (fault_of c.in-Err.fault) (sym c.in-Err.ensures)) refl
 
-pub returns-else-out-number : goal.returns-else-out-number
+pub returns-else-out-head : goal.returns-else-out-head
 unfolding answers_into
-returns-else-out-number c =
+returns-else-out-head c =
     let a = c.args in
-    let head = c.in-Sound.head in
-    let whole = judged-sound a.trace.now head (sym c.in-Sound.ensures) in
-    let room = c.if-out-number.false in
-    let made = c.new-made.result.board in
-    let board : made ≡ fresh head.model head.divisor = ap (λ (o : Outcome). o.board) c.new-made.ensures ∙ new-board head.model head.divisor in
+    let head = c.in-Ok.head in
+    let whole = judged-sound a.trace.now head (sym c.in-Ok.ensures) in
+    let room = c.if-out-head.false in
+    let made = c.new.result.board in
+    let board : made ≡ fresh head.model head.divisor = ap (λ (o : Outcome). o.board) c.new.ensures ∙ new-board head.model head.divisor in
     let text = told_from Answers made 0 (to_tell a.trace.now 0 head.operations) in
     let said =
     told-sound Answers a.trace.now head.operations whole.all_sound made 0 a.out.now c.tell-told.result c.tell-told.new.out c.tell-told.ensures

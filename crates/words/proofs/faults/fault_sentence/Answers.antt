@@ -1,33 +1,32 @@
-use native.Mathlib.Omega.{arith}
-use lib.ListN.{length-append, replicate}
-use Rattle.text.proofs.Puts.{wrote, and_then}
+use Rattle.std.proofs.Common.{ℕ, List, ◌++◌, ◌≡◌, ◌≤◌, ◌∙◌, ap, length, take, arith}
+use lib.ListN.{length-append}
+use Rattle.refusal.specs.Refusal.{refusal_number}
+use Rattle.text.proofs.Rooms.{first, and_pushed, said}
 use Rattle.line.specs.Lines.{newline}
-use Rattle.line.proofs.Back.{line-fits}
-use Rattle.words.specs.Faults.{where_words, rule_words, there_words, fault_sentence, fault_room}
-use Rattle.words.proofs.Sentence.{sentence-text, line-put}
+use Rattle.words.specs.Faults.{where_words, rule_words, code_in, there_words, fault_sentence, fault_room}
 use Rattle.words.proofs.faults.fault_sentence.Goals as goal
+
+-- a text that is pushed, by what it says
+in_words : (before after text words : List ℕ) → text ≡ words → after ≡ take fault_room (before ++ text) → after ≡ take fault_room (before ++ words)
+in_words before after text words same pushed = pushed ∙ ap (λ (t : List ℕ). take fault_room (before ++ t)) same
 
 pub returns : goal.returns
 unfolding fault_sentence
 returns c =
-    let n = c.number-number in
     let f = c.args.fault in
+    let n = refusal_number f.refusal in
     let t = c.args.trace.now in
-    let lead_text = where_words f.within f.place in
-    let rule_text = rule_words n.result c.code_in.result in
-    let there_text = there_words n.result t f.place in
-    let one = wrote lead_text (replicate fault_room 0) 0 _ _ (line-put _ lead_text _ _ _ _ c.where_words-lead.ensures.0 c.put_line-len.ensures) in
-    let two = and_then one rule_text _ _ (line-put _ rule_text _ _ _ _ c.rule_words-rule.ensures.0 c.put_line-len-2.ensures) in
-    let three = and_then two there_text _ _ (line-put _ there_text _ _ _ _ c.there_words-there.ensures.0 c.put_line-len-3.ensures) in
-    let whole = and_then three newline _ _ c.put-len.ensures in
-    rw (← n.ensures, ← c.code_in.ensures)
-    (sentence-text whole (simp length-append (omega (arith, c.where_words-lead.ensures.1, c.rule_words-rule.ensures.1, c.there_words-there.ensures.1))))
-
-pub put_line-len-requires : goal.put_line-len-requires
-put_line-len-requires c = line-fits _ _ c.where_words-lead.ensures.0
-
-pub put_line-len-requires-2 : goal.put_line-len-requires-2
-put_line-len-requires-2 c = line-fits _ _ c.rule_words-rule.ensures.0
-
-pub put_line-len-requires-3 : goal.put_line-len-requires-3
-put_line-len-requires-3 c = line-fits _ _ c.there_words-there.ensures.0
+    let lead = where_words f.operation f.place in
+    let rule = rule_words n (code_in t f.operation) in
+    let there = there_words n t f.place in
+    let one = c.as_bytes.ensures.text ∙ c.where_words-lead.ensures.says in
+    let two = c.as_bytes-2.ensures.text ∙ c.rule_words-rule.ensures.says ∙ ap (rule_words n) c.code_in.ensures in
+    let three = c.as_bytes-3.ensures.text ∙ c.there_words-there.ensures.says in
+    let rule_fits : length rule ≤ 64 = rw (← c.code_in.ensures) c.rule_words-rule.ensures.fits in
+    let fits : length (lead ++ rule ++ there ++ newline) ≤ fault_room
+    = simp length-append (omega (arith, c.where_words-lead.ensures.fits, rule_fits, c.there_words-there.ensures.fits)) in
+    let t1 = first {room = fault_room} {before = c.new-sentence.result} lead c.push.new.self (in_words c.new-sentence.result c.push.new.self c.as_bytes.result.now lead one c.push.ensures) in
+    let t2 = and_pushed t1 rule c.push-2.new.self (in_words c.push.new.self c.push-2.new.self c.as_bytes-2.result.now rule two c.push-2.ensures) in
+    let t3 = and_pushed t2 there c.push-3.new.self (in_words c.push-2.new.self c.push-3.new.self c.as_bytes-3.result.now there three c.push-3.ensures) in
+    let t4 = and_pushed t3 newline c.push-4.new.self c.push-4.ensures in
+    record { says = said t4 c.new-sentence.ensures fits; fits = fits }

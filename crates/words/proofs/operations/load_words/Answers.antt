@@ -1,15 +1,16 @@
 use native.Mathlib.Omega.{arith}
+use lib.ListN.{length-append}
+use Rattle.std.proofs.Common.{◌≤◌, length}
 use Rattle.text.specs.Ascii.{ascii}
-use Rattle.text.specs.Number.{decimal}
 use Rattle.text.proofs.Decimal.{decimal-u8}
-use Rattle.text.proofs.Puts.{wrote, and_then}
-use Rattle.words.proofs.Grown.{grown}
+use Rattle.text.proofs.Rooms.{first, and_number, said}
+use Rattle.line.specs.Line.{line_room}
+use Rattle.words.specs.Operations.{load_words}
 use Rattle.words.proofs.operations.load_words.Goals as goal
 
 pub returns : goal.returns
 returns c =
-    let l = c.empty.result in
-    let text = wrote (ascii "load cycle of channel ") l.bytes l.len _ _ c.with_text-line.ensures in
-    let n = c.args.channel in
-    let whole = and_then text (decimal n) _ _ c.with_number.ensures in
-    grown l c.empty.ensures whole (omega (arith, decimal-u8 n (omega arith)))
+    let fits : length (load_words c.args.channel) ≤ line_room = simp length-append (omega (arith, decimal-u8 c.args.channel (omega arith))) in
+    let t1 = first {room = line_room} {before = c.new-line.result} (ascii "load cycle of channel ") c.push.new.self c.push.ensures in
+    let t2 = and_number t1 c.args.channel c.from.result c.push_decimal.new.self c.from.ensures c.push_decimal.ensures in
+    record { says = said t2 c.new-line.ensures fits; fits = fits }

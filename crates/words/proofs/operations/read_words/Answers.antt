@@ -1,28 +1,17 @@
-use mathlib.Core.List.{[]}
 use native.Mathlib.Omega.{arith}
 use lib.ListN.{length-append}
+use Rattle.std.proofs.Common.{◌≤◌, length, []}
 use Rattle.text.specs.Ascii.{ascii}
 use Rattle.text.specs.Number.{hex}
-use Rattle.text.proofs.Puts.{wrote, and_then}
-use Rattle.line.proofs.Ends.{room-behind}
-use Rattle.words.specs.Inner.{asked_room}
-use Rattle.words.specs.Operations.{data_port_words}
-use Rattle.words.proofs.Grown.{grown, empty-room}
+use Rattle.text.proofs.Rooms.{first, and_pushed, said}
+use Rattle.line.specs.Line.{line_room}
+use Rattle.words.specs.Operations.{data_port_words, read_words}
 use Rattle.words.proofs.operations.read_words.Goals as goal
 
 pub returns : goal.returns
 returns c =
-    let l = c.empty.result in
-    let a = c.args in
-    let word = wrote (ascii "read ") l.bytes l.len _ _ c.with_text-line.ensures in
-    let port = and_then word (hex a.port) _ _ c.with_hex-line.ensures in
-    let whole = and_then port (data_port_words a.port []) _ _ c.with_data_port.ensures.0 in
-    grown l c.empty.ensures whole (simp length-append (omega (arith, c.with_data_port.ensures.1)))
-
-pub with_data_port-requires-clause-asked_room_in_bounds : goal.with_data_port-requires-clause-asked_room_in_bounds
-with_data_port-requires-clause-asked_room_in_bounds c =
-    let l = c.empty.result in
-    let a = c.args in
-    let word = wrote (ascii "read ") l.bytes l.len _ _ c.with_text-line.ensures in
-    let port = and_then word (hex a.port) _ _ c.with_hex-line.ensures in
-    room-behind port (empty-room l c.empty.ensures) asked_room (omega arith)
+    let fits : length (read_words c.args.port) ≤ line_room = simp length-append (omega (arith, c.push_data_port.ensures.fits)) in
+    let t1 = first {room = line_room} {before = c.new-line.result} (ascii "read ") c.push.new.self c.push.ensures in
+    let t2 = and_pushed t1 (hex c.args.port) c.push_hex.new.self c.push_hex.ensures in
+    let t3 = and_pushed t2 (data_port_words c.args.port []) c.push_data_port.new.line c.push_data_port.ensures.says in
+    record { says = said t3 c.new-line.ensures fits; fits = fits }

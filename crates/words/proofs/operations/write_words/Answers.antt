@@ -1,31 +1,19 @@
 use native.Mathlib.Omega.{arith}
 use lib.ListN.{length-append}
+use Rattle.std.proofs.Common.{◌≤◌, length}
 use Rattle.text.specs.Ascii.{ascii}
 use Rattle.text.specs.Number.{hex}
-use Rattle.text.proofs.Puts.{wrote, and_then}
-use Rattle.line.proofs.Ends.{room-behind}
-use Rattle.words.specs.Inner.{asked_room}
-use Rattle.words.specs.Operations.{written_words}
-use Rattle.words.proofs.Grown.{grown, empty-room}
+use Rattle.text.proofs.Rooms.{first, and_pushed, said}
+use Rattle.line.specs.Line.{line_room}
+use Rattle.words.specs.Operations.{written_words, write_words}
 use Rattle.words.proofs.operations.write_words.Goals as goal
 
 pub returns : goal.returns
 returns c =
-    let l = c.empty.result in
-    let a = c.args in
-    let word = wrote (ascii "write ") l.bytes l.len _ _ c.with_text-line.ensures in
-    let port = and_then word (hex a.port) _ _ c.with_hex-line.ensures in
-    let space = and_then port (ascii " ") _ _ c.with_text-line-2.ensures in
-    let byte = and_then space (hex a.byte) _ _ c.with_hex-line-2.ensures in
-    let whole = and_then byte (written_words a.model a.port a.byte) _ _ c.with_written.ensures.0 in
-    grown l c.empty.ensures whole (simp length-append (omega (arith, c.with_written.ensures.1)))
-
-pub with_written-requires : goal.with_written-requires
-with_written-requires c =
-    let l = c.empty.result in
-    let a = c.args in
-    let word = wrote (ascii "write ") l.bytes l.len _ _ c.with_text-line.ensures in
-    let port = and_then word (hex a.port) _ _ c.with_hex-line.ensures in
-    let space = and_then port (ascii " ") _ _ c.with_text-line-2.ensures in
-    let byte = and_then space (hex a.byte) _ _ c.with_hex-line-2.ensures in
-    room-behind byte (empty-room l c.empty.ensures) asked_room (omega arith)
+    let fits : length (write_words c.args.model c.args.port c.args.byte) ≤ line_room = simp length-append (omega (arith, c.push_written.ensures.fits)) in
+    let t1 = first {room = line_room} {before = c.new-line.result} (ascii "write ") c.push.new.self c.push.ensures in
+    let t2 = and_pushed t1 (hex c.args.port) c.push_hex.new.self c.push_hex.ensures in
+    let t3 = and_pushed t2 (ascii " ") c.push-2.new.self c.push-2.ensures in
+    let t4 = and_pushed t3 (hex c.args.byte) c.push_hex-2.new.self c.push_hex-2.ensures in
+    let t5 = and_pushed t4 (written_words c.args.model c.args.port c.args.byte) c.push_written.new.line c.push_written.ensures.says in
+    record { says = said t5 c.new-line.ensures fits; fits = fits }
