@@ -15,7 +15,8 @@ use Rattle.channel.specs.Blank.{blank}
 use Rattle.channel.specs.Models.{model_number, model_numbered}
 use Rattle.channel.proofs.Models.{model-back}
 use Rattle.encoding.specs.Stored.{channel_bytes}
-use Rattle.encoding.proofs.Back.{flag-within, flag-back, all-readable, same-channel}
+use Rattle.encoding.specs.Codes.{flag_back}
+use Rattle.encoding.proofs.Back.{flag-within, all-readable, same-channel}
 use Rattle.board.specs.declared.Board.{Board}
 use Rattle.board.specs.Board.{channel_at}
 use Rattle.board_encoding.specs.Stored.{board_bytes}
@@ -76,7 +77,7 @@ module _ (b : Board) (rest : List ℕ) where
     same-own : (cs : List Channel) → cs ≡ b.channels → (board_in (board_bytes b ++ rest)).channels ≡ cs → board_in (board_bytes b ++ rest) ≡ b
     unfolding board_bytes channel_bytes board_in number_at
     same-own cs are is =
-        simp (is, are, same-model, flag-back, long-back _ r.divisor, long-back _ r.remainder, long-back _ r.warp, long-back _ r.owed)
+        simp (is, are, same-model, flag_back, long-back _ r.divisor, long-back _ r.remainder, long-back _ r.warp, long-back _ r.owed)
 
     pub board-back-before : board_in (board_bytes b ++ rest) ≡ b
     board-back-before = same-own b.channels refl same-channels

@@ -9,9 +9,8 @@ use time::{SystemTicks, TimerTicks};
 fn settings_bytes(b: Board) -> [u8; 5]
     ensures { result ≡ settings_bytes b }
 {
-    let model = b.model;
     let d = numbers::four_bytes(b.divisor);
-    [model.number(), d[0], d[1], d[2], d[3]]
+    [b.model.number(), d[0], d[1], d[2], d[3]]
 }
 
 pub fn time_bytes(
@@ -34,7 +33,7 @@ pub fn time_bytes(
         w[1],
         w[2],
         w[3],
-        numbers::flag_byte(defer),
+        u8::from(defer),
         o[0],
         o[1],
         o[2],
@@ -49,11 +48,8 @@ pub fn board_bytes(b: Board) -> [u8; BOARD_SIZE]
     let c1 = encoding::channel_bytes(b.channels[1]);
     let c2 = encoding::channel_bytes(b.channels[2]);
     let settings = settings_bytes(b);
-    let remainder = b.remainder;
-    let warp = b.warp;
-    let owed = b.owed;
-    let time = time_bytes(remainder, warp, b.defer, owed);
-    let mut bytes = [0u8; BOARD_SIZE];
+    let time = time_bytes(b.remainder, b.warp, b.defer, b.owed);
+    let mut bytes = [0; BOARD_SIZE];
     let mut place = text::put(&mut bytes, 0, &c0);
     place = text::put(&mut bytes, place, &c1);
     place = text::put(&mut bytes, place, &c2);

@@ -9,7 +9,7 @@ pub use asked::operation_of;
 use time::SystemTicks;
 
 // A port and a byte; a channel with a level or a number; ticks; a channel; how many ticks to work off.
-#[derive(Clone, Copy)]
+#[derive(Clone, Copy, Debug, PartialEq, Eq)]
 pub enum Operation {
     WritePort(u16, u8),
     ReadPort(u16),

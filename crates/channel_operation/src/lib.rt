@@ -9,7 +9,7 @@ use channel::PitType;
 pub use making::operate;
 
 // A byte and the board's defer flag; a level; a control byte and the board's model.
-#[derive(Clone, Copy)]
+#[derive(Clone, Copy, Debug, PartialEq, Eq)]
 pub enum Operation {
     WriteByte(u8, bool),
     ReadByte,

@@ -33,27 +33,21 @@ fn silent(channel: Channel) -> Made
     answered(channel, 0, 0, 0)
 }
 
-fn as_number(flag: bool) -> u16
-    ensures { result ≡ flag_number flag }
-{
-    numbers::flag_byte(flag) as u16
-}
-
+#[tactic(auto, unfolding(crate::specs::Made::operate))]
 fn read(c: Channel) -> Made
     ensures { result ≡ operate c Operation.ReadByte }
 {
     let got = latch::read_byte(c);
-    let next = got.channel;
     let label = latch::label_of(c);
-    let half = label.half;
     answered(
-        next,
-        got.byte as u16,
-        half.number() as u16,
-        as_number(label.held),
+        got.channel,
+        u16::from(got.byte),
+        u16::from(label.half_number()),
+        u16::from(label.held),
     )
 }
 
+#[tactic(auto, unfolding(crate::specs::Made::operate))]
 fn channel_count(c: Channel) -> Made
     ensures { result ≡ operate c Operation.GetChannelCount }
 {
@@ -62,20 +56,20 @@ fn channel_count(c: Channel) -> Made
         c,
         got.count_register,
         got.counting_element,
-        as_number(got.counting),
+        u16::from(got.counting),
     )
 }
 
+#[tactic(auto, unfolding(crate::specs::Made::operate))]
 fn dirty(c: Channel) -> Made
     ensures { result ≡ operate c Operation.IsDirty }
 {
     let got = c.is_dirty();
-    let next = got.channel;
     answered(
-        next,
-        as_number(got.dirty),
-        as_number(got.counting),
-        as_number(got.ticked),
+        got.channel,
+        u16::from(got.dirty),
+        u16::from(got.counting),
+        u16::from(got.ticked),
     )
 }
 
@@ -83,10 +77,12 @@ fn dirty(c: Channel) -> Made
 fn read_back(c: Channel, word: ReadBackWord) -> Made
     ensures { result ≡ read_back_made c word }
 {
-    if word.names_any() {
-        return answered(latch::read_back(c, word.counts, word.status), 4, 0, 0);
-    }
-    answered(c, 4, 0, 0)
+    let channel = if word.names_any() {
+        latch::read_back(c, word.counts, word.status)
+    } else {
+        c
+    };
+    answered(channel, 4, 0, 0)
 }
 
 // The command is opened as document 01 names it: a mode set carries its fields, a latch its channel, a read-back what it asks for, nothing returns early.
@@ -100,11 +96,12 @@ fn commanded(c: Channel, command: Command, model: PitType) -> Made
             };
             return read_back(c, named);
         };
-        return answered(latch::latch_count(c), latched as u16, 0, 0);
+        return answered(latch::latch_count(c), u16::from(latched), 0, 0);
     };
-    answered(mode::set_mode(c, word, model), n as u16, 0, 0)
+    answered(mode::set_mode(c, word, model), u16::from(n), 0, 0)
 }
 
+#[tactic(auto, unfolding(crate::specs::Made::operate))]
 pub fn operate(c: Channel, operation: Operation) -> Made
     ensures { result ≡ operate c operation }
 {
@@ -120,10 +117,10 @@ pub fn operate(c: Channel, operation: Operation) -> Made
             control::command_of(byte, model),
             model,
         ),
-        Operation::GetOutputState => answered(c, as_number(c.get_output_state()), 0, 0),
+        Operation::GetOutputState => answered(c, u16::from(c.get_output_state()), 0, 0),
         Operation::GetChannelCount => channel_count(c),
         Operation::DoesChannelRetrigger => {
-            answered(c, as_number(c.does_channel_retrigger()), 0, 0)
+            answered(c, u16::from(c.does_channel_retrigger()), 0, 0)
         }
         Operation::IsDirty => dirty(c),
     }

@@ -25,22 +25,18 @@ use Rattle.channel.specs.declared.ChannelState.{ChannelState}
 use Rattle.channel.specs.declared.ChannelState.TheVariants.{WaitingForReload, WaitingForGate, DeferLoadCycle, WaitingForLoadCycle, WaitingForLoadTrigger, Counting}
 use Rattle.channel.specs.Modes.{mode_number, mode_numbered}
 use Rattle.channel.proofs.Modes.{every-mode}
-use Rattle.encoding.specs.declared.loading.Loaded.TheVariants.{Whole}
-use Rattle.encoding.specs.Codes.{flag_coded, access_byte, access_coded, load_state_byte, load_state_coded, load_type_byte, load_type_coded, read_state_byte, read_state_coded, state_byte, state_coded}
+use Rattle.std.specs.Prelude.{Ok}
+use Rattle.encoding.specs.Codes.{access_byte, load_state_byte, load_type_byte, read_state_byte, state_byte, flag_back, access_back, load_state_back, load_type_back, read_state_back, state_back}
 use Rattle.encoding.specs.Stored.{channel_size, channel_bytes}
 use Rattle.encoding.specs.Loaded.{readable_to, readable, channel_spelled, load_channel}
 use Rattle.encoding.specs.Range.{InRange}
 use Rattle.encoding.proofs.Length.{bytes-length}
 
--- A byte that is stored is within its limit, and means what was stored.
+-- A byte that is stored is within its limit; that it means what was stored specs/Codes.antt says.
 
 pub flag-within : (b : Bool) → ltb 1 (flag_number b) ≡ false
 flag-within true = refl
 flag-within false = refl
-
-pub flag-back : (b : Bool) → flag_coded (flag_number b) ≡ b
-flag-back true = refl
-flag-back false = refl
 
 mode-within : (m : ChannelMode) → ltb 5 (mode_number m) ≡ false
 mode-within = every-mode (λ m. ltb 5 (mode_number m) ≡ false) refl refl refl refl refl refl
@@ -53,34 +49,17 @@ access-within Lsb = refl
 access-within Msb = refl
 access-within LsbMsb = refl
 
-access-back : (a : RwMode) → access_coded (access_byte a) ≡ a
-access-back Lsb = refl
-access-back Msb = refl
-access-back LsbMsb = refl
-
 load-state-within : (s : LoadState) → ltb 1 (load_state_byte s) ≡ false
 load-state-within WaitingForLsb = refl
 load-state-within WaitingForMsb = refl
-
-load-state-back : (s : LoadState) → load_state_coded (load_state_byte s) ≡ s
-load-state-back WaitingForLsb = refl
-load-state-back WaitingForMsb = refl
 
 load-type-within : (t : LoadType) → ltb 1 (load_type_byte t) ≡ false
 load-type-within InitialLoad = refl
 load-type-within SubsequentLoad = refl
 
-load-type-back : (t : LoadType) → load_type_coded (load_type_byte t) ≡ t
-load-type-back InitialLoad = refl
-load-type-back SubsequentLoad = refl
-
 read-state-within : (s : ReadState) → ltb 1 (read_state_byte s) ≡ false
 read-state-within NoRead = refl
 read-state-within ReadLsb = refl
-
-read-state-back : (s : ReadState) → read_state_coded (read_state_byte s) ≡ s
-read-state-back NoRead = refl
-read-state-back ReadLsb = refl
 
 state-within : (s : ChannelState) → ltb 6 (state_byte s) ≡ false
 state-within WaitingForReload = refl
@@ -90,15 +69,6 @@ state-within WaitingForLoadCycle = refl
 state-within WaitingForLoadTrigger = refl
 state-within (Counting Normal) = refl
 state-within (Counting ReloadNextCycle) = refl
-
-state-back : (s : ChannelState) → state_coded (state_byte s) ≡ s
-state-back WaitingForReload = refl
-state-back WaitingForGate = refl
-state-back DeferLoadCycle = refl
-state-back WaitingForLoadCycle = refl
-state-back WaitingForLoadTrigger = refl
-state-back (Counting Normal) = refl
-state-back (Counting ReloadNextCycle) = refl
 
 byte-within : (n : ℕ) → ltb 255 (n % 256) ≡ false
 byte-within n = le-ltb _ _ (let h : n % 256 ≤ 255 = omega arith in h)
@@ -122,13 +92,13 @@ pub same-channel : (c : Channel) → InRange c → (rest : List ℕ) → channel
 unfolding channel_bytes channel_spelled number_at
 same-channel c r rest =
     simp (
-      flag-back,
+      flag_back,
       mode-back,
-      access-back,
-      load-state-back,
-      load-type-back,
-      read-state-back,
-      state-back,
+      access_back,
+      load_state_back,
+      load_type_back,
+      read_state_back,
+      state_back,
       word_back _ r.mask,
       word_back _ r.register,
       word_back _ r.reload,
@@ -137,7 +107,7 @@ same-channel c r rest =
       word_back _ r.held,
     )
 
-pub load_stored : (c : Channel) → InRange c → (rest : List ℕ) → load_channel (channel_bytes c ++ rest) ≡ Whole c
+pub load_stored : (c : Channel) → InRange c → (rest : List ℕ) → load_channel (channel_bytes c ++ rest) ≡ Ok c
 unfolding load_channel
 load_stored c r rest =
     let long : channel_size ≤ length (channel_bytes c ++ rest) = simp (length-append, bytes-length) (omega arith) in

@@ -12,7 +12,8 @@ use Rattle.numbers.specs.Little.{two_bytes, word_at}
 use Rattle.numbers.proofs.Little.{two-of}
 use Rattle.channel.specs.declared.Channel.{Channel}
 use Rattle.channel.specs.Modes.{mode_number, mode_numbered}
-use Rattle.encoding.specs.declared.loading.Loaded.TheVariants.{Whole, Short, Unreadable}
+use Rattle.std.specs.Prelude.{Ok, Err}
+use Rattle.encoding.specs.declared.loading.LoadError.TheVariants.{Short, Unreadable}
 use Rattle.encoding.specs.Codes.{access_byte, access_coded, load_state_byte, load_state_coded, load_type_byte, load_type_coded, read_state_byte, read_state_coded, state_byte, state_coded}
 use Rattle.encoding.specs.Stored.{channel_size, channel_bytes}
 use Rattle.encoding.specs.Loaded.{limits, readable, flag_at, channel_spelled, load_channel}
@@ -102,13 +103,13 @@ module _ (bytes : List ℕ) (all : readable bytes ≡ true) where
   form long = all-spelled ∙ spelled-part bytes 0 channel_size long
 
 only-by : (bytes : List ℕ) (c : Channel) (short good : Bool) → ltb (length bytes) channel_size ≡ short → readable bytes ≡ good
-    → cond short Short (cond good (Whole (channel_spelled bytes)) Unreadable) ≡ Whole c
+    → cond short (Err Short) (cond good (Ok (channel_spelled bytes)) (Err Unreadable)) ≡ Ok c
     → channel_bytes c ≡ take channel_size bytes
 only-by bytes c true good len all e = let z : ◌≡◌ {A = ℕ} 0 1 = cc in absurd (omega arith)
 only-by bytes c false true len all e =
     let same : channel_spelled bytes ≡ c = cc in rw (← same) (form bytes all (ltb-false (length bytes) channel_size len))
 only-by bytes c false false len all e = let z : ◌≡◌ {A = ℕ} 0 1 = cc in absurd (omega arith)
 
-pub only-bytes : (bytes : List ℕ) (c : Channel) → load_channel bytes ≡ Whole c → channel_bytes c ≡ take channel_size bytes
+pub only-bytes : (bytes : List ℕ) (c : Channel) → load_channel bytes ≡ Ok c → channel_bytes c ≡ take channel_size bytes
 unfolding load_channel
 only-bytes bytes c = only-by bytes c (ltb (length bytes) channel_size) (readable bytes) refl refl

@@ -1,6 +1,7 @@
 -- docs/ENCODING.md, "A channel's record": the byte of each value that is no number, and the value of each byte. Of a byte above its limit a value
 -- is named too, so that these are functions; such a byte is never loaded.
-use Rattle.std.specs.Prelude.{ℕ, Bool, cond, List, [], ◌∷◌, eqb, get_or}
+use Rattle.std.specs.Prelude.{ℕ, ◌≡◌, refl, Bool, true, false, cond, List, [], ◌∷◌, eqb, get_or}
+use Rattle.numbers.specs.Flags.{flag_number}
 use Rattle.channel.specs.declared.RwMode.{RwMode}
 use Rattle.channel.specs.declared.RwMode.TheVariants.{Lsb, Msb, LsbMsb}
 use Rattle.channel.specs.declared.LoadState.{LoadState}
@@ -70,3 +71,35 @@ waiting_states = WaitingForReload ∷ WaitingForGate ∷ DeferLoadCycle ∷ Wait
 
 abbrev pub state_coded : ℕ → ChannelState
 state_coded byte = get_or waiting_states byte (Counting (cond (eqb byte 5) Normal ReloadNextCycle))
+
+-- A byte that is stored means what was stored.
+
+pub flag_back : (b : Bool) → flag_coded (flag_number b) ≡ b
+flag_back true = refl
+flag_back false = refl
+
+pub access_back : (a : RwMode) → access_coded (access_byte a) ≡ a
+access_back Lsb = refl
+access_back Msb = refl
+access_back LsbMsb = refl
+
+pub load_state_back : (s : LoadState) → load_state_coded (load_state_byte s) ≡ s
+load_state_back WaitingForLsb = refl
+load_state_back WaitingForMsb = refl
+
+pub load_type_back : (t : LoadType) → load_type_coded (load_type_byte t) ≡ t
+load_type_back InitialLoad = refl
+load_type_back SubsequentLoad = refl
+
+pub read_state_back : (s : ReadState) → read_state_coded (read_state_byte s) ≡ s
+read_state_back NoRead = refl
+read_state_back ReadLsb = refl
+
+pub state_back : (s : ChannelState) → state_coded (state_byte s) ≡ s
+state_back WaitingForReload = refl
+state_back WaitingForGate = refl
+state_back DeferLoadCycle = refl
+state_back WaitingForLoadCycle = refl
+state_back WaitingForLoadTrigger = refl
+state_back (Counting Normal) = refl
+state_back (Counting ReloadNextCycle) = refl

@@ -1,5 +1,5 @@
 -- docs/ENCODING.md, "A channel's record": which bytes are readable, and the channel that they spell.
-use Rattle.std.specs.Prelude.{ℕ, zero, suc, Bool, true, false, cond, List, [], ◌∷◌, ltb, length, get_or}
+use Rattle.std.specs.Prelude.{ℕ, zero, suc, Bool, true, false, cond, List, [], ◌∷◌, ltb, length, get_or, Result, Ok, Err}
 use Rattle.numbers.specs.Little.{word_at}
 use Rattle.numbers.specs.Number.{number_at}
 use Rattle.channel.specs.declared.Channel.{Channel}
@@ -11,8 +11,8 @@ use Rattle.channel.specs.declared.Latch.{Latch}
 use Rattle.channel.specs.declared.Pins.{Pins}
 use Rattle.channel.specs.declared.Status.{Status}
 use Rattle.channel.specs.Modes.{mode_numbered}
-use Rattle.encoding.specs.declared.loading.Loaded.{Loaded}
-use Rattle.encoding.specs.declared.loading.Loaded.TheVariants.{Whole, Short, Unreadable}
+use Rattle.encoding.specs.declared.loading.LoadError.{LoadError}
+use Rattle.encoding.specs.declared.loading.LoadError.TheVariants.{Short, Unreadable}
 use Rattle.encoding.specs.Codes.{flag_coded, access_coded, load_state_coded, load_type_coded, read_state_coded, state_coded}
 use Rattle.encoding.specs.Stored.{channel_size}
 
@@ -89,5 +89,6 @@ channel_spelled bytes =
     }
 
 -- "101 fewer bytes of record .. than it has", "102 the record .. is not readable"
-unfoldable pub load_channel : List ℕ → Loaded
-load_channel bytes = cond (ltb (length bytes) channel_size) Short (cond (readable bytes) (Whole (channel_spelled bytes)) Unreadable)
+unfoldable pub load_channel : List ℕ → Result Channel LoadError
+load_channel bytes =
+    cond (ltb (length bytes) channel_size) (Err Short) (cond (readable bytes) (Ok (channel_spelled bytes)) (Err Unreadable))

@@ -3,6 +3,7 @@
 
 mod codes;
 pub mod loading;
+mod record;
 mod storing;
 
 pub use loading::load_channel;

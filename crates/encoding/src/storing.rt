@@ -3,113 +3,101 @@ ghost use Rattle.std.specs.Prelude.{◌≡◌, length};
 ghost use Rattle.encoding.specs.Stored.{control_bytes, reloading_bytes, load_bytes, counter_bytes, latch_bytes, pins_bytes, status_bytes, channel_bytes};
 ghost use Rattle.encoding.specs.Front.{fits, put_front};
 
-use crate::{CHANNEL_SIZE, codes};
-use channel::Channel;
+use crate::CHANNEL_SIZE;
+use crate::codes::Coded;
+use channel::{Channel, ControlWord, Counter, Latch, Load, Pins, Reloading, Status};
 
-fn control_bytes(c: Channel) -> [u8; 3]
-    ensures { result ≡ control_bytes c.control }
+fn control_bytes(word: ControlWord) -> [u8; 3]
+    ensures { result ≡ control_bytes word }
 {
-    let w = c.control;
-    let mode = w.mode;
-    let access = w.rw_mode;
     [
-        mode.number(),
-        codes::access_byte(access),
-        numbers::flag_byte(w.bcd_mode),
+        word.mode.number(),
+        word.rw_mode.byte(),
+        word.bcd_mode.byte(),
     ]
 }
 
-fn reloading_bytes(c: Channel) -> [u8; 4]
-    ensures { result ≡ reloading_bytes c.reloading }
+fn reloading_bytes(rule: Reloading) -> [u8; 4]
+    ensures { result ≡ reloading_bytes rule }
 {
-    let rule = c.reloading;
-    let mask = numbers::two_bytes(rule.load_mask);
+    let [mask_low, mask_high] = numbers::two_bytes(rule.load_mask);
     [
-        numbers::flag_byte(rule.output_on_reload),
-        numbers::flag_byte(rule.reload_on_trigger),
-        mask[0],
-        mask[1],
+        rule.output_on_reload.byte(),
+        rule.reload_on_trigger.byte(),
+        mask_low,
+        mask_high,
     ]
 }
 
-fn load_bytes(c: Channel) -> [u8; 7]
-    ensures { result ≡ load_bytes c.load }
+fn load_bytes(load: Load) -> [u8; 7]
+    ensures { result ≡ load_bytes load }
 {
-    let l = c.load;
-    let load_state = l.load_state;
-    let load_type = l.load_type;
-    let register = numbers::two_bytes(l.count_register);
-    let reload = numbers::two_bytes(l.reload_value);
+    let [register_low, register_high] = numbers::two_bytes(load.count_register);
+    let [reload_low, reload_high] = numbers::two_bytes(load.reload_value);
     [
-        register[0],
-        register[1],
-        reload[0],
-        reload[1],
-        codes::load_state_byte(load_state),
-        codes::load_type_byte(load_type),
-        numbers::flag_byte(l.armed),
+        register_low,
+        register_high,
+        reload_low,
+        reload_high,
+        load.load_state.byte(),
+        load.load_type.byte(),
+        load.armed.byte(),
     ]
 }
 
-fn counter_bytes(c: Channel) -> [u8; 8]
-    ensures { result ≡ counter_bytes c.counter }
+fn counter_bytes(counter: Counter) -> [u8; 8]
+    ensures { result ≡ counter_bytes counter }
 {
-    let k = c.counter;
-    let state = k.channel_state;
-    let cycles = numbers::four_bytes(k.cycles_in_state);
-    let element = numbers::two_bytes(k.counting_element);
+    let cycles = numbers::four_bytes(counter.cycles_in_state);
+    let element = numbers::two_bytes(counter.counting_element);
     [
-        codes::state_byte(state),
+        counter.channel_state.byte(),
         cycles[0],
         cycles[1],
         cycles[2],
         cycles[3],
         element[0],
         element[1],
-        numbers::flag_byte(k.ticked),
+        counter.ticked.byte(),
     ]
 }
 
-fn latch_bytes(c: Channel) -> [u8; 4]
-    ensures { result ≡ latch_bytes c.latch }
+fn latch_bytes(latch: Latch) -> [u8; 4]
+    ensures { result ≡ latch_bytes latch }
 {
-    let l = c.latch;
-    let read_state = l.read_state;
-    let held = numbers::two_bytes(l.output_latch);
+    let [held_low, held_high] = numbers::two_bytes(latch.output_latch);
     [
-        held[0],
-        held[1],
-        numbers::flag_byte(l.count_is_latched),
-        codes::read_state_byte(read_state),
+        held_low,
+        held_high,
+        latch.count_is_latched.byte(),
+        latch.read_state.byte(),
     ]
 }
 
-fn pins_bytes(c: Channel) -> [u8; 2]
-    ensures { result ≡ pins_bytes c.pins }
+fn pins_bytes(pins: Pins) -> [u8; 2]
+    ensures { result ≡ pins_bytes pins }
 {
-    let p = c.pins;
-    [numbers::flag_byte(p.gate), numbers::flag_byte(p.output)]
+    [pins.gate.byte(), pins.output.byte()]
 }
 
-fn status_bytes(c: Channel) -> [u8; 2]
-    ensures { result ≡ status_bytes c.status }
+fn status_bytes(status: Status) -> [u8; 2]
+    ensures { result ≡ status_bytes status }
 {
-    let s = c.status;
-    [s.status_latch, numbers::flag_byte(s.null_count)]
+    [status.status_latch, status.null_count.byte()]
 }
 
 #[tactic(auto, unfolding(crate::specs::Stored::channel_bytes))]
 pub fn channel_bytes(c: Channel) -> [u8; CHANNEL_SIZE]
     ensures { result ≡ channel_bytes c }
 {
-    let w = control_bytes(c);
-    let r = reloading_bytes(c);
-    let l = load_bytes(c);
-    let k = counter_bytes(c);
-    let t = latch_bytes(c);
-    let p = pins_bytes(c);
-    let d = numbers::flag_byte(c.dirty);
-    let s = status_bytes(c);
+    let w = control_bytes(c.control);
+    let r = reloading_bytes(c.reloading);
+    let l = load_bytes(c.load);
+    let k = counter_bytes(c.counter);
+    let t = latch_bytes(c.latch);
+    let p = pins_bytes(c.pins);
+    let d = c.dirty.byte();
+    let s = status_bytes(c.status);
     [
         w[0], w[1], w[2], r[0], r[1], r[2], r[3], l[0], l[1], l[2], l[3], l[4], l[5], l[6], k[0],
         k[1], k[2], k[3], k[4], k[5], k[6], k[7], t[0], t[1], t[2], t[3], p[0], p[1], d, s[0],

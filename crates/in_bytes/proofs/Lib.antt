@@ -3,3 +3,4 @@ pub mod Three
 pub mod Part
 pub mod Calls
 pub mod Loads
+pub mod Clocks

@@ -3,6 +3,9 @@
 //
 // The parts stand here, taken out of the bytes and put back. finding.rt finds the part that an operation is about, working.rt does the operation. The rules themselves are those of
 // `turn`, `clock`, `ports` and `owed`, which know nothing of bytes. loading.rt takes the whole board out, for a replay from a checkpoint.
+//
+// That the bytes hold a board is a premise of each function, and not an invariant of a struct that has the lent bytes: then each function that writes would have to say besides
+// that the bytes are the ones that were lent, and to prove that what it leaves in them can be read again.
 #![tactic(auto)]
 
 pub mod finding;
@@ -11,6 +14,7 @@ pub mod working;
 
 ghost use Rattle.std.specs.Prelude.{◌&&◌, [], ◌∷◌, ◌≡◌, ◌≤◌, ◌<◌, length};
 ghost use Rattle.board.specs.Board.{channel_at, with_channel, with_time, owing};
+ghost use Rattle.clock.specs.Elapsed.{clock_of};
 ghost use Rattle.board_encoding.specs.Places.{board_size};
 ghost use Rattle.board_encoding.specs.Loaded.{own_readable, board_readable, board_in, HoldsBoard};
 ghost use Rattle.in_bytes.specs.Called.{stored};
@@ -20,7 +24,9 @@ use board_encoding::{
     THIRD_PLACE, WARP_PLACE,
 };
 use channel::{Channel, PitType};
+use clock::Clock;
 use encoding::CHANNEL_SIZE;
+use encoding::loading::{is_record, record_in};
 use time::{SystemTicks, TimerTicks};
 pub use working::call;
 
@@ -32,19 +38,7 @@ fn own_readable(bytes: &[u8]) -> bool
     requires { board_size ≤ length bytes.now }
     ensures { result ≡ own_readable bytes.now }
 {
-    if 1 < bytes[MODEL_PLACE] {
-        return false;
-    }
-    if 1 < bytes[DEFER_PLACE] {
-        return false;
-    }
-    true
-}
-
-fn both(a: bool, b: bool) -> bool
-    ensures { result ≡ (a && b) }
-{
-    if a { b } else { false }
+    bytes[MODEL_PLACE] <= 1 && bytes[DEFER_PLACE] <= 1
 }
 
 // All bytes of the board are looked at, whatever part of them a call is about.
@@ -52,11 +46,10 @@ fn board_readable(bytes: &[u8]) -> bool
     requires { board_size ≤ length bytes.now }
     ensures { result ≡ board_readable bytes.now }
 {
-    let first = encoding::loading::is_record(&bytes[0..SECOND_PLACE]);
-    let second = encoding::loading::is_record(&bytes[SECOND_PLACE..THIRD_PLACE]);
-    let third = encoding::loading::is_record(&bytes[THIRD_PLACE..MODEL_PLACE]);
-    let own = own_readable(bytes);
-    both(both(first, second), both(third, own))
+    let first = is_record(&bytes[0..SECOND_PLACE]);
+    let second = is_record(&bytes[SECOND_PLACE..THIRD_PLACE]);
+    let third = is_record(&bytes[THIRD_PLACE..MODEL_PLACE]);
+    first && second && third && own_readable(bytes)
 }
 
 fn channel_in(bytes: &[u8], n: usize) -> Channel
@@ -65,17 +58,29 @@ fn channel_in(bytes: &[u8], n: usize) -> Channel
     ensures { result ≡ channel_at (board_in bytes.now) n }
 {
     let from = CHANNEL_SIZE * n;
-    let to = from + CHANNEL_SIZE;
-    encoding::loading::record_in(&bytes[from..to])
+    record_in(&bytes[from..from + CHANNEL_SIZE])
 }
 
+fn channels_in(bytes: &[u8]) -> [Channel; 3]
+    requires { HoldsBoard bytes.now }
+    ensures { result ≡ (board_in bytes.now).channels }
+{
+    [
+        channel_in(bytes, 0),
+        channel_in(bytes, 1),
+        channel_in(bytes, 2),
+    ]
+}
+
+#[tactic(auto, unfolding(board_encoding::specs::Loaded::board_in))]
 fn model_in(bytes: &[u8]) -> PitType
     requires { HoldsBoard bytes.now }
     ensures { result ≡ (board_in bytes.now).model }
 {
-    PitType::numbered(bytes[MODEL_PLACE] as u32)
+    PitType::numbered(u32::from(bytes[MODEL_PLACE]))
 }
 
+#[tactic(auto, unfolding(board_encoding::specs::Loaded::board_in))]
 fn divisor_in(bytes: &[u8]) -> u32
     requires { HoldsBoard bytes.now }
     ensures { result ≡ (board_in bytes.now).divisor }
@@ -83,6 +88,7 @@ fn divisor_in(bytes: &[u8]) -> u32
     numbers::number_at(bytes, DIVISOR_PLACE)
 }
 
+#[tactic(auto, unfolding(board_encoding::specs::Loaded::board_in))]
 fn remainder_in(bytes: &[u8]) -> SystemTicks
     requires { HoldsBoard bytes.now }
     ensures { result ≡ (board_in bytes.now).remainder }
@@ -90,6 +96,7 @@ fn remainder_in(bytes: &[u8]) -> SystemTicks
     SystemTicks(numbers::number_at(bytes, REMAINDER_PLACE))
 }
 
+#[tactic(auto, unfolding(board_encoding::specs::Loaded::board_in))]
 fn warp_in(bytes: &[u8]) -> SystemTicks
     requires { HoldsBoard bytes.now }
     ensures { result ≡ (board_in bytes.now).warp }
@@ -97,6 +104,7 @@ fn warp_in(bytes: &[u8]) -> SystemTicks
     SystemTicks(numbers::number_at(bytes, WARP_PLACE))
 }
 
+#[tactic(auto, unfolding(board_encoding::specs::Loaded::board_in))]
 fn defer_in(bytes: &[u8]) -> bool
     requires { HoldsBoard bytes.now }
     ensures { result ≡ (board_in bytes.now).defer }
@@ -104,11 +112,25 @@ fn defer_in(bytes: &[u8]) -> bool
     bytes[DEFER_PLACE] == 1
 }
 
+#[tactic(auto, unfolding(board_encoding::specs::Loaded::board_in))]
 fn owed_in(bytes: &[u8]) -> TimerTicks
     requires { HoldsBoard bytes.now }
     ensures { result ≡ (board_in bytes.now).owed }
 {
     TimerTicks(numbers::number_at(bytes, OWED_PLACE))
+}
+
+fn clock_in(bytes: &[u8]) -> Clock
+    requires { HoldsBoard bytes.now }
+    ensures { result ≡ clock_of (board_in bytes.now) }
+{
+    Clock {
+        divisor: divisor_in(bytes),
+        remainder: remainder_in(bytes),
+        warp: warp_in(bytes),
+        defer: defer_in(bytes),
+        owed: owed_in(bytes),
+    }
 }
 
 fn put_channel(bytes: &mut [u8], n: usize, c: Channel)
@@ -121,10 +143,11 @@ fn put_channel(bytes: &mut [u8], n: usize, c: Channel)
 }
 
 // The three records and the owed ticks: what a reset and ticks worked off change; a read-back puts the ticks back as they were.
-fn put_channels(bytes: &mut [u8], c0: Channel, c1: Channel, c2: Channel, owed: TimerTicks)
+fn put_channels(bytes: &mut [u8], channels: [Channel; 3], owed: TimerTicks)
     requires { HoldsBoard bytes.old }
-    ensures { bytes.new ≡ stored (owing (board_in bytes.old) owed.0 (c0 ∷ c1 ∷ c2 ∷ [])) bytes.old }
+    ensures { bytes.new ≡ stored (owing (board_in bytes.old) owed.0 channels) bytes.old }
 {
+    let [c0, c1, c2] = channels;
     let first = encoding::channel_bytes(c0);
     let second = encoding::channel_bytes(c1);
     let third = encoding::channel_bytes(c2);
@@ -135,16 +158,11 @@ fn put_channels(bytes: &mut [u8], c0: Channel, c1: Channel, c2: Channel, owed: T
     text::put(bytes, OWED_PLACE, &last);
 }
 
-fn put_time(
-    bytes: &mut [u8],
-    remainder: SystemTicks,
-    warp: SystemTicks,
-    defer: bool,
-    owed: TimerTicks,
-)
+// The divisor stays: no call changes it.
+fn put_clock(bytes: &mut [u8], clock: Clock)
     requires { HoldsBoard bytes.old }
-    ensures { bytes.new ≡ stored (with_time (board_in bytes.old) remainder.0 warp.0 defer owed.0) bytes.old }
+    ensures { bytes.new ≡ stored (with_time (board_in bytes.old) clock.remainder.0 clock.warp.0 clock.defer clock.owed.0) bytes.old }
 {
-    let part = board_encoding::time_bytes(remainder, warp, defer, owed);
+    let part = board_encoding::time_bytes(clock.remainder, clock.warp, clock.defer, clock.owed);
     text::put(bytes, REMAINDER_PLACE, &part);
 }

@@ -4,7 +4,7 @@ ghost use Rattle.board_encoding.specs.Loaded.{board_in, HoldsBoard};
 ghost use Rattle.in_bytes.specs.Inner.{is_board, board_found};
 
 use crate::{
-    board_readable, channel_in, defer_in, divisor_in, model_in, owed_in, remainder_in, warp_in,
+    board_readable, channels_in, defer_in, divisor_in, model_in, owed_in, remainder_in, warp_in,
 };
 use board::Board;
 use board_encoding::BOARD_SIZE;
@@ -14,32 +14,21 @@ use channel::PitType;
 pub fn is_board(bytes: &[u8]) -> bool
     ensures { result ≡ is_board bytes.now }
 {
-    if bytes.len() < BOARD_SIZE {
-        return false;
-    }
-    board_readable(bytes)
+    BOARD_SIZE <= bytes.len() && board_readable(bytes)
 }
 
 fn board_in(bytes: &[u8]) -> Board
     requires { HoldsBoard bytes.now }
     ensures { result ≡ board_in bytes.now }
 {
-    let c0 = channel_in(bytes, 0);
-    let c1 = channel_in(bytes, 1);
-    let c2 = channel_in(bytes, 2);
-    let channels = [c0, c1, c2];
-    let model = model_in(bytes);
-    let remainder = remainder_in(bytes);
-    let warp = warp_in(bytes);
-    let owed = owed_in(bytes);
     Board {
-        channels,
-        model,
+        channels: channels_in(bytes),
+        model: model_in(bytes),
         divisor: divisor_in(bytes),
-        remainder,
-        warp,
+        remainder: remainder_in(bytes),
+        warp: warp_in(bytes),
         defer: defer_in(bytes),
-        owed,
+        owed: owed_in(bytes),
     }
 }
 
@@ -48,8 +37,8 @@ pub fn load_board(bytes: &[u8]) -> Board
     ensures { result ≡ board_found bytes.now }
 {
     if is_board(bytes) {
-        return board_in(bytes);
+        board_in(bytes)
+    } else {
+        Board::new(PitType::Model8253, 0).board
     }
-    let made = Board::new(PitType::Model8253, 0);
-    made.board
 }

@@ -8,8 +8,7 @@ use lib.Dec.{ltb}
 use lib.ListN.{length}
 use Rattle.refusal.specs.Reply.{number_in}
 use Rattle.channel.proofs.Pick.{pick-holds}
-use Rattle.trace.specs.declared.Within.{Within}
-use Rattle.trace.specs.declared.Within.TheVariants.{Outside, InOperation}
+use Rattle.std.specs.Prelude.{Option, Some, None}
 use Rattle.trace.specs.Judgement.{Judgement, refused_by, sound, and_then}
 use Rattle.trace.specs.Trace.{Trace, read_trace}
 use Rattle.trace.specs.Refusals.{NamedIn}
@@ -28,19 +27,19 @@ Fits r = number_in r.reply < 4294967296
 room_fits : (room : ℕ) (text bytes : List ℕ) → Fits (in_room room text bytes)
 room_fits room text bytes = pick-holds Fits (ltb (length bytes) room) _ _ (omega arith) (omega arith)
 
-status-fits : (trace : List ℕ) (operations number place : ℕ) (within : Within) → NamedIn trace operations place within → number ≤ 21
-    → fault_status number within < 4294967296
-status-fits trace operations number place Outside named few = omega arith
-status-fits trace operations number place (InOperation index) named few = omega (arith, named.0, named.1)
+status-fits : (trace : List ℕ) (operations number place : ℕ) (operation : Option ℕ) → NamedIn trace operations place operation → number ≤ 21
+    → fault_status number operation < 4294967296
+status-fits trace operations number place None named few = omega arith
+status-fits trace operations number place (Some index) named few = omega (arith, named.0, named.1)
 
 answers_by : (trace bytes : List ℕ) (j : Judgement Trace) → read_trace trace ≡ j → Fits (answers_judged j bytes)
 answers_by trace bytes (refused_by f) is =
-    let named = named-inside trace f is in status-fits trace _ f.number f.place f.within named.0 named.1
+    let named = named-inside trace f is in status-fits trace _ f.number f.place f.operation named.0 named.1
 answers_by trace bytes (sound t) is = room_fits (room_of Answers * length t.operations) (answers_of t) bytes
 
 marked_by : (trace bytes : List ℕ) (j : Judgement Trace) → read_trace trace ≡ j → Fits (mark_judged (and_then j (λ t. sound (marked_as trace t))) bytes)
 marked_by trace bytes (refused_by f) is =
-    let named = named-inside trace f is in status-fits trace _ f.number f.place f.within named.0 named.1
+    let named = named-inside trace f is in status-fits trace _ f.number f.place f.operation named.0 named.1
 marked_by trace bytes (sound t) is = room_fits (length (marked_as trace t)) (marked_as trace t) bytes
 
 module _ (trace bytes : List ℕ) where

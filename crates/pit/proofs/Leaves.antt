@@ -14,11 +14,11 @@ use Rattle.trace.specs.Trace.{Trace, read_trace}
 use Rattle.board.specs.declared.Board.{Board}
 use Rattle.board_encoding.specs.Places.{board_size}
 use Rattle.board_encoding.specs.Loaded.{board_readable, board_in}
-use Rattle.board_operation.specs.declared.asked.Asked.{Asked}
-use Rattle.board_operation.specs.declared.asked.Asked.TheVariants as asks
+use Rattle.std.specs.Prelude.{Option, Some, None, Ok, Err}
+use Rattle.board_operation.specs.declared.Operation.{Operation}
 use Rattle.board_operation.specs.Asked.{operation_of}
 use Rattle.board_operation.specs.Made.{Outcome-in-numbers, operate}
-use Rattle.in_bytes.specs.declared.working.Called.TheVariants.{Short, Unreadable, NoRoom}
+use Rattle.in_bytes.specs.declared.working.CallError.TheVariants.{Short, Unreadable, NoRoom}
 use Rattle.in_bytes.specs.Called.{board_answer_size, Calling, calling, making, call_on, call}
 use Rattle.runner.specs.declared.Form.TheVariants.{Answers}
 use Rattle.runner.specs.Printed.{room_of, printed}
@@ -43,15 +43,15 @@ module _ (bytes events answer : List ℕ) where
   made-leaves o true is = rw is (λ set. absurd (set refl))
   made-leaves o false is = rw is (λ set. (refl, refl, refl))
 
-  room-leaves : (short : Bool) (o : Outcome-in-numbers) → LeavesAll (cond short (calling NoRoom bytes events) (making o bytes events))
+  room-leaves : (short : Bool) (o : Outcome-in-numbers) → LeavesAll (cond short (calling (Err NoRoom) bytes events) (making o bytes events))
   room-leaves true o = λ set. (refl, refl, refl)
   room-leaves false o = made-leaves o (eqb o.numbers.refusal 0) refl
 
-  on-leaves : (b : Board) (asked : Asked) (room place : ℕ) → LeavesAll (call_on b asked room place bytes events)
-  on-leaves b asks.Unknown room place = λ set. (refl, refl, refl)
-  on-leaves b (asks.Known op) room place = room-leaves (ltb room board_answer_size) (operate b op events place)
+  on-leaves : (b : Board) (asked : Option Operation) (room place : ℕ) → LeavesAll (call_on b asked room place bytes events)
+  on-leaves b None room place = λ set. (refl, refl, refl)
+  on-leaves b (Some op) room place = room-leaves (ltb room board_answer_size) (operate b op events place)
 
-  bytes-leave : (short good : Bool) (k : Calling) → LeavesAll k → LeavesAll (cond short (calling Short bytes events) (cond good k (calling Unreadable bytes events)))
+  bytes-leave : (short good : Bool) (k : Calling) → LeavesAll k → LeavesAll (cond short (calling (Err Short) bytes events) (cond good k (calling (Err Unreadable) bytes events)))
   bytes-leave true good k leaves = λ set. (refl, refl, refl)
   bytes-leave false true k leaves = leaves
   bytes-leave false false k leaves = λ set. (refl, refl, refl)

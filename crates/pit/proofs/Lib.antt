@@ -1,4 +1,3 @@
-pub mod Making
 pub mod Answered
 pub mod Leaves
 pub mod Fits

@@ -1,5 +1,5 @@
 -- docs/ENCODING.md, "Exported functions": what the calls on a board return, and the lent bytes as they leave them.
-use Rattle.std.specs.Prelude.{ℕ, cond, List, eqb, ltb, length}
+use Rattle.std.specs.Prelude.{ℕ, cond, List, eqb, ltb, length, Result, Ok, Err}
 use Rattle.refusal.specs.Reply.{number_in}
 use Rattle.channel.specs.Models.{model_numbered}
 use Rattle.encoding.specs.Front.{put_front}
@@ -7,8 +7,7 @@ use Rattle.board.specs.Making.{fresh, new}
 use Rattle.board_encoding.specs.Places.{board_size}
 use Rattle.board_operation.specs.declared.answering.Numbers.{Numbers}
 use Rattle.board_operation.specs.Asked.{operation_of}
-use Rattle.in_bytes.specs.declared.working.Called.{Called}
-use Rattle.in_bytes.specs.declared.working.Called.TheVariants.{Short, Unreadable, Unknown, NoRoom, Refused, Made}
+use Rattle.in_bytes.specs.declared.working.CallError.{CallError}
 use Rattle.in_bytes.specs.Called.{Calling, status_of, stored, call}
 use Rattle.pit.specs.Answer.{board_answer_bytes}
 
@@ -26,13 +25,9 @@ abbrev pub numbers_answer : Numbers → List ℕ
 numbers_answer n = board_answer_bytes n.first n.second n.third
 
 -- "with such a number no lent byte changes"; otherwise the answer is written
-abbrev pub answer_after : Called → List ℕ → List ℕ
-answer_after Short answer = answer
-answer_after Unreadable answer = answer
-answer_after Unknown answer = answer
-answer_after NoRoom answer = answer
-answer_after (Refused number) answer = answer
-answer_after (Made numbers) answer = put_front (numbers_answer numbers) answer
+abbrev pub answer_after : Result Numbers CallError → List ℕ → List ℕ
+answer_after (Err error) answer = answer
+answer_after (Ok numbers) answer = put_front (numbers_answer numbers) answer
 
 -- what a call on the bytes comes to (in_bytes/specs/Called.antt), its number returned and its answer written
 abbrev pub answered_by : Calling → List ℕ → BoardCalled

@@ -1,3 +1,4 @@
+pub mod Status
 pub mod Answer
 pub mod Channel
 pub mod Board

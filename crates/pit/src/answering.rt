@@ -7,11 +7,7 @@ use in_bytes::BOARD_ANSWER_SIZE;
 fn eight_bytes(n: u64) -> [u8; 8]
     ensures { result ≡ eight_bytes n }
 {
-    let low = numbers::four_bytes((n % 4294967296) as u32);
-    let high = numbers::four_bytes((n / 4294967296) as u32);
-    [
-        low[0], low[1], low[2], low[3], high[0], high[1], high[2], high[3],
-    ]
+    n.to_le_bytes()
 }
 
 pub(crate) fn board_answer_bytes(first: u64, second: u32, third: u32) -> [u8; BOARD_ANSWER_SIZE]

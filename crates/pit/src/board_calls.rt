@@ -3,19 +3,21 @@ ghost use Rattle.std.specs.Prelude.{◌≡◌};
 ghost use Rattle.encoding.specs.Front.{put_front};
 ghost use Rattle.pit.specs.Board.{numbers_answer, new_status, new_after, board_called, board_operation};
 
-use crate::{SHORT_ANSWER, SHORT_RECORD, UNKNOWN_OPERATION, UNREADABLE_RECORD, answering};
-use board::{Answer, Board};
+use crate::answering;
+use crate::status::Status;
+use board::Board;
 use board_encoding::BOARD_SIZE;
 use board_operation::answering::Numbers;
 use channel::PitType;
-use in_bytes::working::Called;
 
 // The numbers of an operation that was made.
 fn answered(numbers: Numbers, answer: &mut [u8])
     ensures { answer.new ≡ put_front (numbers_answer numbers) answer.old }
 {
-    let said = answering::board_answer_bytes(numbers.first, numbers.second, numbers.third);
-    encoding::put_front(answer, &said);
+    encoding::put_front(
+        answer,
+        &answering::board_answer_bytes(numbers.first, numbers.second, numbers.third),
+    );
 }
 
 pub fn pit_board_operation(
@@ -31,17 +33,12 @@ pub fn pit_board_operation(
 {
     let asked = board_operation::operation_of(code, target, number);
     let room = answer.len();
-    let outcome = in_bytes::call(asked, room, bytes, events, place);
-    match outcome {
-        Called::Short => SHORT_RECORD,
-        Called::Unreadable => UNREADABLE_RECORD,
-        Called::Unknown => UNKNOWN_OPERATION,
-        Called::NoRoom => SHORT_ANSWER,
-        Called::Refused(refusal) => refusal as u32,
-        Called::Made(numbers) => {
+    match in_bytes::call(asked, room, bytes, events, place) {
+        Ok(numbers) => {
             answered(numbers, answer);
             0
         }
+        Err(error) => u32::from(Status::from(error)),
     }
 }
 
@@ -49,18 +46,17 @@ pub fn pit_board_new(bytes: &mut [u8], model: u8, divisor: u32) -> u32
     ensures { (result ≡ new_status model divisor bytes.old) × (bytes.new ≡ new_after model divisor bytes.old) }
 {
     if bytes.len() < BOARD_SIZE {
-        return SHORT_RECORD;
+        return u32::from(Status::ShortRecord);
     }
     if 1 < model {
-        return UNKNOWN_OPERATION;
+        return u32::from(Status::UnknownOperation);
     }
-    let made = Board::new(PitType::numbered(model as u32), divisor);
-    let answer = made.answer;
-    let board = made.board;
-    let Answer::Refused(refusal) = answer else {
-        let fresh = board_encoding::board_bytes(board);
-        encoding::put_front(bytes, &fresh);
-        return 0;
-    };
-    refusal.number() as u32
+    let made = Board::new(PitType::numbered(u32::from(model)), divisor);
+    match made.answer {
+        Ok(_) => {
+            encoding::put_front(bytes, &board_encoding::board_bytes(made.board));
+            0
+        }
+        Err(refusal) => u32::from(refusal.number()),
+    }
 }

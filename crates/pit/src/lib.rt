@@ -5,6 +5,7 @@
 mod answering;
 pub mod board_calls;
 pub mod channel_calls;
+pub mod status;
 pub mod trace_calls;
 
 pub use board_calls::{pit_board_new, pit_board_operation};
@@ -14,13 +15,3 @@ pub use encoding::CHANNEL_SIZE;
 pub use in_bytes::BOARD_ANSWER_SIZE;
 pub use runner::TEXT_ROOM;
 pub use trace_calls::{pit_answers, pit_check, pit_mark, pit_replay, pit_replay_from};
-
-const SHORT_RECORD: u32 = 101;
-
-const UNREADABLE_RECORD: u32 = 102;
-
-const UNKNOWN_OPERATION: u32 = 103;
-
-const SHORT_ANSWER: u32 = 104;
-
-const SHORT_OUT: u32 = 105;

@@ -5,7 +5,7 @@ use Rattle.pit.proofs.trace_calls.pit_replay_from.Goals as goal
 
 pub returns-then-answer-lt-BOARD_ANSWER_SIZE : goal.returns-then-answer-lt-BOARD_ANSWER_SIZE
 unfolding replay_call
-returns-then-answer-lt-BOARD_ANSWER_SIZE c = simp (lt-ltb _ _ c.if-answer-lt-BOARD_ANSWER_SIZE.true)
+returns-then-answer-lt-BOARD_ANSWER_SIZE c = simp (c.from.ensures, lt-ltb _ _ c.if-answer-lt-BOARD_ANSWER_SIZE.true)
 
 pub settle-requires : goal.settle-requires
 settle-requires c = subst Fits (sym c.replay_from_into-replayed.ensures) (from-fits c.args.trace.now c.args.out.now c.args.checkpoint)

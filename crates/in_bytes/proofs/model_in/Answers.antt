@@ -1,6 +1,0 @@
-use Rattle.board_encoding.specs.Loaded.{board_in}
-use Rattle.in_bytes.proofs.model_in.Goals as goal
-
-pub returns : goal.returns
-unfolding board_in
-returns c = simp c.numbered.ensures
