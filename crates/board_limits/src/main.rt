@@ -5,8 +5,8 @@
 use board::{Answer, Board};
 use channel::{Channel, PitType};
 use refusal::Refusal;
-use std::io;
-use time::{SystemTicks, TimerTicks};
+use std::{fmt, io};
+use time::SystemTicks;
 
 // Stands in the event bytes before a call, to be seen where nothing is written.
 const OLD_BYTE: u8 = 165;
@@ -24,44 +24,33 @@ const ALL_THREE: u8 = 0xCE;
 
 const ASKS_NOTHING: u8 = 0xFE;
 
-fn say_refusal(rt: &impl Print, refusal: Refusal) -> io::Result<()> {
-    let number = refusal.number();
-    print!(rt; "refused {number}")
-}
+// An answer in words.
+#[derive(Clone, Copy)]
+struct Said(Result<Answer, Refusal>);
 
-fn say_ticks(rt: &impl Print, yielded: TimerTicks) -> io::Result<()> {
-    let number = yielded.0;
-    print!(rt; "ticks {number}")
-}
-
-fn say_answer(rt: &impl Print, answer: Answer) -> io::Result<()> {
-    match answer {
-        Answer::Refused(refusal) => say_refusal(rt, refusal),
-        Answer::Done => print!(rt; "done"),
-        Answer::Place(place) => print!(rt; "place {place}"),
-        Answer::Ticks(yielded) => say_ticks(rt, yielded),
-        Answer::Byte(_) => print!(rt; "byte"),
-        Answer::OutputState(_) => print!(rt; "output"),
-        Answer::Count(_) => print!(rt; "count"),
-        Answer::Retriggers(_) => print!(rt; "retriggers"),
-        Answer::Dirty(_, _, _) => print!(rt; "dirty"),
-        Answer::Worked(worked) => {
-            let made = worked.made.0;
-            let place = worked.place;
-            print!(rt; "made {made}, place {place}")
+impl fmt::Display for Said {
+    fn fmt<W: fmt::Write>(&self, f: &mut fmt::Formatter<W>) -> fmt::Result {
+        match self.0 {
+            Err(refusal) => write!(f, "refused {}", refusal.number()),
+            Ok(Answer::Done) => write!(f, "done"),
+            Ok(Answer::Place(place)) => write!(f, "place {place}"),
+            Ok(Answer::Ticks(yielded)) => write!(f, "ticks {}", yielded.0),
+            Ok(Answer::Byte(_)) => write!(f, "byte"),
+            Ok(Answer::OutputState(_)) => write!(f, "output"),
+            Ok(Answer::Count(_)) => write!(f, "count"),
+            Ok(Answer::Retriggers(_)) => write!(f, "retriggers"),
+            Ok(Answer::Dirty(_)) => write!(f, "dirty"),
+            Ok(Answer::Worked(worked)) => write!(
+                f,
+                "made {}, place {}",
+                worked.made.0, worked.place
+            ),
         }
     }
 }
 
 fn fresh() -> Board {
-    let made = Board::new(PitType::Model8253, DIVISOR);
-    made.board
-}
-
-fn say_time(rt: &impl Print, b: Board) -> io::Result<()> {
-    let left = b.remainder.0;
-    let warp = b.warp.0;
-    println!(rt; ", left {left}, warp {warp}")
+    Board::new(PitType::Model8253, DIVISOR).board
 }
 
 // In BCD, where 65,536 counts do not come back to their start: from 0 to 4464, which is 17508 as a binary number. One more come to 4463, and the
@@ -71,24 +60,19 @@ fn counts(rt: &impl Print, number: u32) -> io::Result<()> {
     start.channels[0].control.bcd_mode = true;
     let r = calls::counts(start, 0, number);
     let element = r.board.channels[0].counter.counting_element;
-    print!(rt; "counts {number}: ")?;
-    say_answer(rt, r.answer)?;
-    println!(rt; ", element {element}")
+    println!(rt; "counts {number}: {}, element {element}", Said(r.answer))
 }
 
 // A catch-up of 100 first: the warp is then 100, and 4 ticks are left beyond 8 times 12. The 8 are worked off, or a run would be refused for them.
 fn warped() -> Board {
     let r = calls::catch_up(fresh(), SystemTicks(100));
-    let mut events = [OLD_BYTE; 6];
-    let worked = calls::work_off(r.board, 8, &mut events, 0);
-    worked.board
+    calls::work_off(r.board, 8, &mut [OLD_BYTE; 6], 0).board
 }
 
 fn run(rt: &impl Print, b: Board, ticks: u32) -> io::Result<()> {
     let r = calls::run(b, SystemTicks(ticks));
-    print!(rt; "run {ticks}: ")?;
-    say_answer(rt, r.answer)?;
-    say_time(rt, r.board)
+    let (left, warp) = (r.board.remainder.0, r.board.warp.0);
+    println!(rt; "run {ticks}: {}, left {left}, warp {warp}", Said(r.answer))
 }
 
 // A board that has 4,294,967,295 - 100 ticks left over, and no warp.
@@ -98,30 +82,28 @@ fn nearly_full() -> Board {
     b
 }
 
-fn say_bytes(rt: &impl Print, events: [u8; 3], level: bool) -> io::Result<()> {
+// Three event bytes and an output.
+fn say_bytes(rt: &impl Print, events: [u8; 3], output: bool) -> io::Result<()> {
     let [b0, b1, b2] = events;
-    let output = if level { 1 } else { 0 };
-    println!(rt; ", bytes {b0} {b1} {b2}, output {output}")
+    println!(rt; ", bytes {b0} {b1} {b2}, output {}", u8::from(output))
 }
 
 // A control byte with three event bytes lent.
 fn control(rt: &impl Print, name: &str, byte: u8, place: usize) -> io::Result<()> {
     let mut events = [OLD_BYTE; 3];
     let r = calls::write_port(fresh(), 0x43, byte, &mut events, place);
-    let output = r.board.channels[0].pins.output;
-    print!(rt; "{name} at place {place} of 3: ")?;
-    say_answer(rt, r.answer)?;
-    say_bytes(rt, events, output)
+    print!(rt; "{name} at place {place} of 3: {}", Said(r.answer))?;
+    say_bytes(rt, events, r.board.channels[0].pins.output)
 }
 
 // A port write where a tick is owed, with three event bytes lent: 16 comes after 1 and before 7.
 fn write_owing(rt: &impl Print, port: u16, place: usize) -> io::Result<()> {
     let owing = calls::run(fresh(), SystemTicks(12));
-    let mut events = [OLD_BYTE; 3];
-    let r = calls::write_port(owing.board, port, MODE_2, &mut events, place);
-    print!(rt; "write to port {port} at place {place} of 3, a tick owed: ")?;
-    say_answer(rt, r.answer)?;
-    println!(rt; "")
+    let r = calls::write_port(owing.board, port, MODE_2, &mut [OLD_BYTE; 3], place);
+    println!(rt;
+        "write to port {port} at place {place} of 3, a tick owed: {}",
+        Said(r.answer)
+    )
 }
 
 fn say_held(rt: &impl Print, c: Channel) -> io::Result<()> {
@@ -130,18 +112,18 @@ fn say_held(rt: &impl Print, c: Channel) -> io::Result<()> {
     } else {
         "free"
     };
-    let status = c.status.status_latch;
-    print!(rt; ", {held} status {status}")
+    print!(rt; ", {held} status {}", c.status.status_latch)
 }
 
 // A read-back on an 8254, after so many system ticks, with three event bytes lent: 16, then 7, and never 8. What it leaves of the three channels.
 fn read_back(rt: &impl Print, byte: u8, ticks: u32, place: usize) -> io::Result<()> {
     let made = Board::new(PitType::Model8254, DIVISOR);
     let start = calls::run(made.board, SystemTicks(ticks));
-    let mut events = [OLD_BYTE; 3];
-    let r = calls::write_port(start.board, 0x43, byte, &mut events, place);
-    print!(rt; "read-back {byte} after {ticks} at place {place} of 3: ")?;
-    say_answer(rt, r.answer)?;
+    let r = calls::write_port(start.board, 0x43, byte, &mut [OLD_BYTE; 3], place);
+    print!(rt;
+        "read-back {byte} after {ticks} at place {place} of 3: {}",
+        Said(r.answer)
+    )?;
     for c in r.board.channels {
         say_held(rt, c)?;
     }
@@ -154,43 +136,46 @@ fn pulsing(owed: u32) -> Board {
     let set = calls::write_port(fresh(), 0x43, MODE_2, &mut events, 0);
     let low = calls::write_port(set.board, 0x40, 2, &mut events, 0);
     let high = calls::write_port(low.board, 0x40, 0, &mut events, 0);
-    let r = calls::run(high.board, SystemTicks(12 * (owed % 100000)));
-    r.board
+    calls::run(high.board, SystemTicks(12 * (owed % 100000))).board
 }
 
 // Ticks worked off with three event bytes lent.
 fn work(rt: &impl Print, b: Board, stated: u32, place: usize) -> io::Result<()> {
     let mut events = [OLD_BYTE; 3];
     let r = calls::work_off(b, stated, &mut events, place);
-    let owed = r.board.owed.0;
-    let output = r.board.channels[0].pins.output;
-    print!(rt; "work {stated} at place {place} of 3: ")?;
-    say_answer(rt, r.answer)?;
-    print!(rt; ", owed {owed}")?;
-    say_bytes(rt, events, output)
+    print!(rt;
+        "work {stated} at place {place} of 3: {}, owed {}",
+        Said(r.answer),
+        r.board.owed.0
+    )?;
+    say_bytes(rt, events, r.board.channels[0].pins.output)
 }
 
 fn idling() -> Board {
-    let r = calls::run(fresh(), SystemTicks(786444));
-    r.board
+    calls::run(fresh(), SystemTicks(786444)).board
 }
 
 fn working_off(rt: &impl Print) -> io::Result<()> {
-    work(rt, idling(), 65536, 3)?;
-    work(rt, idling(), 65537, 3)?;
-    work(rt, idling(), 65537, 4)?;
-    work(rt, pulsing(5), 0, 0)?;
-    work(rt, pulsing(0), 5, 0)?;
-    work(rt, pulsing(5), 5, 0)?;
-    work(rt, pulsing(5), 5, 1)?;
-    work(rt, pulsing(5), 5, 2)?;
-    work(rt, pulsing(1), 5, 2)
+    for (stated, place) in [(65536, 3), (65537, 3), (65537, 4)] {
+        work(rt, idling(), stated, place)?;
+    }
+    for (owed, stated, place) in [
+        (5, 0, 0),
+        (0, 5, 0),
+        (5, 5, 0),
+        (5, 5, 1),
+        (5, 5, 2),
+        (1, 5, 2),
+    ] {
+        work(rt, pulsing(owed), stated, place)?;
+    }
+    Ok(())
 }
 
 fn counts_and_runs(rt: &impl Print) -> io::Result<()> {
-    counts(rt, 65536)?;
-    counts(rt, 65537)?;
-    counts(rt, 4294967295)?;
+    for number in [65536, 65537, 4294967295] {
+        counts(rt, number)?;
+    }
     run(rt, warped(), 100)?;
     run(rt, warped(), 99)?;
     run(rt, nearly_full(), 100)?;
@@ -201,16 +186,19 @@ fn writes(rt: &impl Print) -> io::Result<()> {
     for place in 1..5 {
         control(rt, "mode set", MODE_2, place)?;
     }
-    control(rt, "latch", LATCH, 3)?;
-    control(rt, "latch", LATCH, 4)?;
-    read_back(rt, ALL_THREE, 11, 3)?;
-    read_back(rt, ALL_THREE, 11, 4)?;
-    read_back(rt, ALL_THREE, 12, 4)?;
-    read_back(rt, ASKS_NOTHING, 11, 0)?;
-    read_back(rt, ASKS_NOTHING, 12, 0)?;
-    write_owing(rt, 0x44, 4)?;
-    write_owing(rt, 0x43, 4)?;
-    write_owing(rt, 0x42, 0)
+    for place in 3..5 {
+        control(rt, "latch", LATCH, place)?;
+    }
+    for (ticks, place) in [(11, 3), (11, 4), (12, 4)] {
+        read_back(rt, ALL_THREE, ticks, place)?;
+    }
+    for ticks in [11, 12] {
+        read_back(rt, ASKS_NOTHING, ticks, 0)?;
+    }
+    for (port, place) in [(0x44, 4), (0x43, 4), (0x42, 0)] {
+        write_owing(rt, port, place)?;
+    }
+    Ok(())
 }
 
 fn main(rt: HostRuntime) -> io::Result<()> {

@@ -2,46 +2,39 @@
 // What is printed is proved in the crate checkpoint, and the words in the crate words; here bytes are only read, lent and written.
 #![tactic(auto)]
 
-use checkpoint::checking::Checked;
 use console::{Failure, Verdict};
-use runner::lending::Replayed;
 use std::io::Write;
 use std::process::ExitCode;
-
-// One sentence of a trace that does not pass, and nothing of one that does. That it could not be written is let go.
-fn say_fault<E: Write>(error: &mut E, trace: &[u8]) -> Verdict {
-    match checkpoint::checking::check(trace) {
-        Checked::Right(_) => Verdict::Sound,
-        Checked::Refused(fault) => {
-            let sentence = words::fault_sentence(trace, fault);
-            let _ = console::print_first(error, &sentence.bytes, sentence.len);
-            Verdict::Refused
-        }
-    }
-}
 
 fn print_check<W: Write>(output: &mut W, trace: &[u8]) -> Result<(), Failure> {
     let mut line = [0u8; line::LINE_ROOM];
     match checkpoint::check_into(trace, &mut line) {
-        Replayed::Written(n) => console::print_first(output, &line, n),
-        Replayed::Refused(_, _) => Ok(()),
-        Replayed::Short => Ok(()),
+        Ok(n) => console::print_first(output, &line, n),
+        Err(_) => Ok(()),
     }
 }
 
+// Behind the line one sentence of a trace that does not pass, and nothing of one that does. That the sentence could not be written is let go.
 fn answer<W: Write, E: Write>(
     output: &mut W,
     error: &mut E,
     trace: &[u8],
 ) -> Result<Verdict, Failure> {
     print_check(output, trace)?;
-    Ok(say_fault(error, trace))
+    match checkpoint::checking::check(trace) {
+        Ok(_) => Ok(Verdict::Sound),
+        Err(fault) => {
+            let _ = console::print_fault(error, trace, fault);
+            Ok(Verdict::Refused)
+        }
+    }
 }
 
 fn main(rt: HostRuntime) -> ExitCode {
-    let verdict = match console::read_trace(rt.alloc(), rt.reader()) {
-        Ok(trace) => answer(&mut rt.stdout(), &mut rt.stderr(), trace.as_slice()),
-        Err(failure) => Err(failure),
-    };
+    let verdict = console::read_trace(rt.alloc(), rt.reader()).and_then(|trace| answer(
+        &mut rt.stdout(),
+        &mut rt.stderr(),
+        trace.as_slice(),
+    ));
     console::end(&rt, verdict)
 }

@@ -1,9 +1,9 @@
 -- What each reader of a trace is proved to write, and what its answer says.
-use Rattle.std.specs.Prelude.{ℕ, List}
+use Rattle.std.specs.Prelude.{ℕ, List, Result, Ok, Err}
 use Rattle.refusal.specs.Refusal.{refusal_number}
 use Rattle.refusal.specs.Reply.{Reply, refused, accepted}
-use Rattle.runner.specs.declared.lending.Replayed.{Replayed}
-use Rattle.runner.specs.declared.lending.Replayed.TheVariants.{Written, Refused, Short}
+use Rattle.runner.specs.declared.lending.ReplayError.{ReplayError}
+use Rattle.runner.specs.declared.lending.ReplayError.TheVariants.{Refused, Short}
 use Rattle.runner.specs.Lent.{Replaying, replay_into}
 use Rattle.checkpoint.specs.Check.{check_into}
 use Rattle.checkpoint.specs.From.{replay_from_into}
@@ -23,7 +23,7 @@ end_written (accepted n) = n
 end_written (refused _) = 0
 
 -- the number of the trace's refusal: 0 where there is none
-abbrev pub refused_as : Replayed → ℕ
-refused_as (Written _) = 0
-refused_as (Refused refusal within) = refusal_number refusal
-refused_as Short = 0
+abbrev pub refused_as : Result ℕ ReplayError → ℕ
+refused_as (Ok _) = 0
+refused_as (Err (Refused refusal operation)) = refusal_number refusal
+refused_as (Err Short) = 0

@@ -2,13 +2,13 @@
 // changed, of which the full check is to say 18 at the checkpoint's first byte. How many are refused so, and what is said of the other prefixes.
 ghost use Rattle.std.specs.Prelude.{◌<◌};
 
-use crate::lines::{first, say, say_count, say_number};
+use crate::lines::first;
 use crate::making::{byte_at, put_byte, put_marked};
 use crate::readers::{Reader, ask, refused_as, show, written};
 use line::LINE_ROOM;
 use refusal::Refusal;
 use std::io;
-use trace::{Fault, Within};
+use trace::Fault;
 
 // Where the first checkpoint of 256 operations begins, and the second of 600.
 const FIRST_OF_256: usize = 16 + 6 * 256 + 4;
@@ -17,62 +17,50 @@ const SECOND_OF_600: usize = 16 + 6 * 600 + 4 + 111;
 
 // Whether a text is the one line of a fault outside the operations.
 fn is_fault(text: &[u8], refusal: Refusal, place: usize) -> bool {
-    let line = line::fault_line(Fault {
-        refusal,
-        place,
-        within: Within::Outside,
-    });
-    let bytes = line.bytes;
-    text == first(&bytes, line.len)
+    let line = line::fault_line(Fault::outside(refusal, place));
+    text == line.as_bytes()
 }
 
 // A line is lent and no more, so of a sound trace a replay says nothing. The reader that marks tells no place.
 fn ends_early(reader: Reader, prefix: &[u8]) -> bool {
     let mut out = [0u8; LINE_ROOM];
     let replayed = ask(reader, prefix, &mut out);
-    if refused_as(replayed) == 9 {
-        return true;
-    }
-    is_fault(
-        first(&out, written(replayed)),
-        Refusal::TraceEnds,
-        prefix.len(),
-    )
+    let said = first(&out, written(replayed));
+    refused_as(replayed) == 9 || is_fault(said, Refusal::TraceEnds, prefix.len())
 }
 
 fn show_each(rt: &impl Print, reader: Reader, trace: &[u8]) -> io::Result<()> {
-    let mut number = 0;
-    let mut n = 0;
-    while n <= trace.len() {
+    let mut number: usize = 0;
+    for n in 0..=trace.len() {
         let prefix = &trace[..n];
-        n += 1;
         if ends_early(reader, prefix) {
             number += 1;
         } else {
-            say_count(rt, prefix.len(), b" bytes")?;
+            print!(rt; "{n} bytes")?;
             show(rt, reader, prefix)?;
         }
     }
-    say_count(rt, number, b" prefixes refused 9 at their length\n")
+    println!(rt; "{number} prefixes refused 9 at their length")
 }
 
 pub(crate) fn show_prefixes(rt: &impl Print, marked: &[u8]) -> io::Result<()> {
-    show_each(rt, Reader::Replay, marked)?;
-    show_each(rt, Reader::Check, marked)?;
-    show_each(rt, Reader::From(0), marked)?;
-    show_each(rt, Reader::From(1), marked)?;
-    show_each(rt, Reader::Mark, marked)
+    for reader in [
+        Reader::Replay,
+        Reader::Check,
+        Reader::From(0),
+        Reader::From(1),
+        Reader::Mark,
+    ] {
+        show_each(rt, reader, marked)?;
+    }
+    Ok(())
 }
 
 // Whether the check sees so much added to one byte of a checkpoint.
 fn is_seen(marked: &[u8], checkpoint: usize, place: usize, more: u8) -> bool {
     let mut trace = [0u8; 3842];
     let length = text::put(&mut trace, 0, marked);
-    put_byte(
-        &mut trace,
-        place,
-        std::num::wrapping_add_u8(byte_at(marked, place), more),
-    );
+    put_byte(&mut trace, place, byte_at(marked, place).wrapping_add(more));
     let mut out = [0u8; LINE_ROOM];
     let checked = checkpoint::check_into(first(&trace, length), &mut out);
     is_fault(
@@ -86,20 +74,15 @@ fn is_seen(marked: &[u8], checkpoint: usize, place: usize, more: u8) -> bool {
 fn every_byte(rt: &impl Print, marked: &[u8], checkpoint: usize, values: u8) -> io::Result<()>
     requires { checkpoint < 26373 }
 {
-    let number = 111 * (values as usize);
-    let mut seen = 0;
-    let mut i = 0;
-    while i < number {
-        let place = checkpoint + i % 111;
-        let more = (i / 111 + 1) as u8;
-        i += 1;
-        if is_seen(marked, checkpoint, place, more) {
-            seen += 1;
+    let mut seen: usize = 0;
+    for more in 1..=values {
+        for place in checkpoint..checkpoint + 111 {
+            if is_seen(marked, checkpoint, place, more) {
+                seen += 1;
+            }
         }
     }
-    say_number(rt, b"checkpoint at ", checkpoint)?;
-    say(rt, b": ")?;
-    say_count(rt, seen, b" changes seen\n")
+    println!(rt; "checkpoint at {checkpoint}: {seen} changes seen")
 }
 
 // Of the checkpoint of 256 operations every byte is changed to every other value, of checkpoint 1 of the trace itself to one.

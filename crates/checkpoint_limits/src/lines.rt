@@ -1,21 +1,7 @@
-// Lines: what is printed here, and parts of what a reader wrote.
-ghost use Rattle.std.specs.Prelude.{◌≡◌, ◌≤◌, length, take};
+// Parts of what a reader wrote.
+ghost use Rattle.std.specs.Prelude.{◌≡◌, take};
 
 use std::io;
-
-pub(crate) fn say(rt: &impl Print, text: &[u8]) -> io::Result<()> {
-    rt.write_all(text)
-}
-
-pub(crate) fn say_number(rt: &impl Print, text: &[u8], number: usize) -> io::Result<()> {
-    say(rt, text)?;
-    print!(rt; "{number}")
-}
-
-pub(crate) fn say_count(rt: &impl Print, number: usize, text: &[u8]) -> io::Result<()> {
-    print!(rt; "{number}")?;
-    say(rt, text)
-}
 
 // So many bytes, or all where there are fewer.
 pub(crate) fn first(bytes: &[u8], n: usize) -> &[u8]
@@ -27,42 +13,25 @@ pub(crate) fn first(bytes: &[u8], n: usize) -> &[u8]
     &bytes[..n]
 }
 
-// The place behind so many lines, or the end where there are fewer.
-fn place_behind(text: &[u8], lines: usize) -> usize
-    ensures { result ≤ length text.now }
-{
-    let mut left = lines;
-    let mut place = 0;
-    while place < text.len() {
-        if left == 0 {
-            return place;
-        }
-        let byte = text[place];
-        place += 1;
-        if byte == b'\n' {
-            left -= 1;
+// What stands behind so many lines, or nothing where there are fewer.
+fn behind(text: &[u8], lines: usize) -> &[u8] {
+    let mut rest = text;
+    for _ in 0..lines {
+        match rest.iter().position(|byte| *byte == b'\n') {
+            Some(end) => rest = &rest[end + 1..],
+            None => return b"",
         }
     }
-    place
-}
-
-// One of several lines, by its index.
-pub(crate) fn say_line(rt: &impl Print, lines: &[u8], index: usize) -> io::Result<()> {
-    let start = place_behind(lines, index);
-    let rest = &lines[start..];
-    say(rt, first(rest, place_behind(rest, 1)))
+    rest
 }
 
 // The last byte of a text ends its last line.
 pub(crate) fn say_last_line(rt: &impl Print, text: &[u8]) -> io::Result<()> {
-    let mut start = text.len();
-    while 1 < start {
-        start -= 1;
-        if text[start - 1] == b'\n' {
-            return say(rt, &text[start..]);
-        }
+    let before = first(text, text.len().saturating_sub(1));
+    match before.iter().rposition(|byte| *byte == b'\n') {
+        Some(end) => rt.write_all(&text[end + 1..]),
+        None => rt.write_all(text),
     }
-    say(rt, text)
 }
 
 // Says whether a text is another but for so many lines at the front, and is not nothing.
@@ -72,11 +41,9 @@ pub(crate) fn say_alike(
     whole: &[u8],
     lines: usize,
 ) -> io::Result<()> {
-    let start = place_behind(whole, lines);
-    if 0 < text.len() {
-        if text == &whole[start..] {
-            return say(rt, b" ok\n");
-        }
+    if !text.is_empty() && text == behind(whole, lines) {
+        println!(rt; " ok")
+    } else {
+        println!(rt; " differs")
     }
-    say(rt, b" differs\n")
 }

@@ -21,10 +21,7 @@ pub(crate) fn blank() -> [u8; ROOM]
 pub(crate) fn byte_at(bytes: &[u8], place: usize) -> u8
     ensures { result ≡ slice_index bytes.now place }
 {
-    if place < bytes.len() {
-        return bytes[place];
-    }
-    0
+    bytes.get(place).copied().unwrap_or(0)
 }
 
 pub(crate) fn put_byte(bytes: &mut [u8], place: usize, byte: u8)
@@ -53,10 +50,8 @@ pub(crate) fn end_of(operations: u32) -> usize
 fn put_operations(source: &[u8], end: usize, out: &mut [u8])
     ensures { out.new ≡ over_and_over source.now 16 (end - 16) out.old }
 {
-    let mut place = 16;
-    while place < end {
+    for place in 16..end {
         put_byte(out, place, byte_at(source, 16 + (place - 16) % 3600));
-        place += 1;
     }
 }
 

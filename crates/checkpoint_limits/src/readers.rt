@@ -3,14 +3,15 @@ ghost use Rattle.std.specs.Prelude.{◌≡◌};
 ghost use Rattle.runner.specs.Lent.{reply_in, replayed};
 ghost use Rattle.checkpoint_limits.specs.Asked.{writes, end_written, refused_as};
 
-use crate::lines::{first, say, say_alike, say_count, say_last_line, say_line, say_number};
-use runner::lending::Replayed;
-use std::io;
+use crate::lines::{first, say_alike, say_last_line};
+use runner::lending::ReplayError;
+use std::{fmt, io};
 
 // Room for all that any of them writes.
 const TEXT: usize = runner::TEXT_ROOM;
 
-#[derive(Clone, Copy)]
+// One enum, and not a closure for each: a reader has a name and a function, and of one that marks the bytes are told otherwise.
+#[derive(Clone, Copy, Debug, PartialEq, Eq)]
 pub(crate) enum Reader {
     Replay,
     Check,
@@ -20,7 +21,7 @@ pub(crate) enum Reader {
 }
 
 #[tactic(auto, unfolding(crate::specs::Asked::writes))]
-pub(crate) fn ask(reader: Reader, trace: &[u8], out: &mut [u8]) -> Replayed
+pub(crate) fn ask(reader: Reader, trace: &[u8], out: &mut [u8]) -> Result<usize, ReplayError>
     ensures { replayed result out.new ≡ writes reader trace.now out.old }
 {
     match reader {
@@ -32,41 +33,47 @@ pub(crate) fn ask(reader: Reader, trace: &[u8], out: &mut [u8]) -> Replayed
 }
 
 // Where what is written ends: 0 where nothing is.
-pub(crate) fn written(replayed: Replayed) -> usize
+pub(crate) fn written(replayed: Result<usize, ReplayError>) -> usize
     ensures { result ≡ end_written (reply_in replayed) }
 {
     match replayed {
-        Replayed::Written(n) => n,
-        Replayed::Refused(_, _) => 0,
-        Replayed::Short => 0,
+        Ok(n) => n,
+        Err(_) => 0,
     }
 }
 
 // The number of the trace's refusal: 0 where there is none.
-pub(crate) fn refused_as(replayed: Replayed) -> u8
+pub(crate) fn refused_as(replayed: Result<usize, ReplayError>) -> u8
     ensures { result ≡ refused_as replayed }
 {
     match replayed {
-        Replayed::Refused(refusal, _) => refusal.number(),
-        Replayed::Written(_) => 0,
-        Replayed::Short => 0,
+        Err(ReplayError::Refused(refusal, _)) => refusal.number(),
+        Ok(_) | Err(ReplayError::Short) => 0,
     }
 }
 
-pub(crate) fn say_reader(rt: &impl Print, reader: Reader) -> io::Result<()> {
-    match reader {
-        Reader::Replay => say(rt, b"replay"),
-        Reader::Check => say(rt, b"check"),
-        Reader::From(k) => say_number(rt, b"from ", k as usize),
-        Reader::Mark => say(rt, b"mark"),
+impl fmt::Display for Reader {
+    fn fmt<W: fmt::Write>(&self, f: &mut fmt::Formatter<W>) -> fmt::Result {
+        match *self {
+            Reader::Replay => write!(f, "replay"),
+            Reader::Check => write!(f, "check"),
+            Reader::From(k) => write!(f, "from {k}"),
+            Reader::Mark => write!(f, "mark"),
+        }
     }
 }
 
-pub(crate) fn say_outcome(rt: &impl Print, replayed: Replayed) -> io::Result<()> {
-    match replayed {
-        Replayed::Written(n) => say_count(rt, n, b" bytes"),
-        Replayed::Refused(_, _) => say_number(rt, b"refused ", refused_as(replayed) as usize),
-        Replayed::Short => say(rt, b"short"),
+// How many bytes were written, or why none.
+#[derive(Clone, Copy)]
+pub(crate) struct Outcome(pub(crate) Result<usize, ReplayError>);
+
+impl fmt::Display for Outcome {
+    fn fmt<W: fmt::Write>(&self, f: &mut fmt::Formatter<W>) -> fmt::Result {
+        match self.0 {
+            Ok(n) => write!(f, "{n} bytes"),
+            Err(ReplayError::Refused(refusal, _)) => write!(f, "refused {}", refusal.number()),
+            Err(ReplayError::Short) => write!(f, "short"),
+        }
     }
 }
 
@@ -77,27 +84,23 @@ fn room() -> [u8; TEXT] {
 
 // Of a text its last line, of a marked trace its length.
 pub(crate) fn show(rt: &impl Print, reader: Reader, trace: &[u8]) -> io::Result<()> {
-    say(rt, b"  ")?;
-    say_reader(rt, reader)?;
-    say(rt, b": ")?;
+    print!(rt; "  {reader}: ")?;
     let mut out = room();
     let replayed = ask(reader, trace, &mut out);
-    if let Reader::Mark = reader {
-        say_outcome(rt, replayed)?;
-        return say(rt, b"\n");
+    if reader == Reader::Mark {
+        return println!(rt; "{}", Outcome(replayed));
     }
     say_last_line(rt, first(&out, written(replayed)))
 }
 
-// So many bytes by all of them, under one of several names.
+// So many bytes by all of them, under a name.
 pub(crate) fn show_by_all(
     rt: &impl Print,
-    names: &[u8],
-    index: usize,
+    name: &str,
     bytes: &[u8],
     length: usize,
 ) -> io::Result<()> {
-    say_line(rt, names, index)?;
+    println!(rt; "{name}")?;
     let trace = first(bytes, length);
     show(rt, Reader::Replay, trace)?;
     show(rt, Reader::Check, trace)?;

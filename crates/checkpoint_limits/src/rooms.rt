@@ -1,6 +1,6 @@
 // Lent bytes: one fewer than is asked for are short, and stay as they were; so do the bytes behind what is written.
-use crate::lines::{first, say, say_number};
-use crate::readers::{Reader, ask, say_outcome, say_reader, written};
+use crate::lines::first;
+use crate::readers::{Outcome, Reader, ask, written};
 use line::LINE_ROOM;
 use std::io;
 
@@ -15,14 +15,7 @@ fn filled() -> [u8; MOST] {
 }
 
 fn stays_from(lent: &[u8; MOST], n: usize) -> bool {
-    let mut i = n;
-    while i < MOST {
-        if lent[i] != FILL {
-            return false;
-        }
-        i += 1;
-    }
-    true
+    lent.iter().skip(n).all(|byte| *byte == FILL)
 }
 
 // The first bytes of what is lent go to the reader.
@@ -30,29 +23,19 @@ fn lend(rt: &impl Print, reader: Reader, trace: &[u8], room: usize) -> io::Resul
     if MOST < room {
         return Ok(());
     }
-    say_number(rt, b"  room ", room)?;
-    say(rt, b": ")?;
     let mut lent = filled();
     let replayed = ask(reader, trace, &mut lent[..room]);
-    say_outcome(rt, replayed)?;
-    if stays_from(&lent, written(replayed)) {
-        say(rt, b", the rest stays\n")
+    let rest = if stays_from(&lent, written(replayed)) {
+        "stays"
     } else {
-        say(rt, b", the rest CHANGED\n")
-    }
+        "CHANGED"
+    };
+    println!(rt; "  room {room}: {}, the rest {rest}", Outcome(replayed))
 }
 
 // A byte less than is asked for, and as many.
-fn pair(
-    rt: &impl Print,
-    name: &[u8],
-    reader: Reader,
-    trace: &[u8],
-    asked: usize,
-) -> io::Result<()> {
-    say(rt, name)?;
-    say_reader(rt, reader)?;
-    say(rt, b"\n")?;
+fn pair(rt: &impl Print, name: &str, reader: Reader, trace: &[u8], asked: usize) -> io::Result<()> {
+    println!(rt; "{name}{reader}")?;
     if 0 < asked {
         lend(rt, reader, trace, asked - 1)?;
     }
@@ -60,16 +43,15 @@ fn pair(
 }
 
 pub(crate) fn show_all(rt: &impl Print, marked: &[u8]) -> io::Result<()> {
-    let name: &[u8] = b"";
-    pair(rt, name, Reader::Replay, marked, MOST)?;
-    pair(rt, name, Reader::Check, marked, LINE_ROOM)?;
-    pair(rt, name, Reader::From(0), marked, LINE_ROOM * 345)?;
-    pair(rt, name, Reader::From(1), marked, LINE_ROOM * 89)?;
-    pair(rt, name, Reader::From(2), marked, LINE_ROOM)?;
-    pair(rt, name, Reader::Mark, marked, 3842)?;
+    pair(rt, "", Reader::Replay, marked, MOST)?;
+    pair(rt, "", Reader::Check, marked, LINE_ROOM)?;
+    pair(rt, "", Reader::From(0), marked, LINE_ROOM * 345)?;
+    pair(rt, "", Reader::From(1), marked, LINE_ROOM * 89)?;
+    pair(rt, "", Reader::From(2), marked, LINE_ROOM)?;
+    pair(rt, "", Reader::Mark, marked, 3842)?;
     // A byte of the count, and no more.
     let refused = first(marked, 3617);
-    let name: &[u8] = b"a refused trace: ";
+    let name = "a refused trace: ";
     pair(rt, name, Reader::Replay, refused, LINE_ROOM)?;
     pair(rt, name, Reader::Check, refused, LINE_ROOM)?;
     pair(rt, name, Reader::From(0), refused, LINE_ROOM)?;

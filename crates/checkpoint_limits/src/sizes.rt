@@ -1,5 +1,5 @@
 // Traces of several lengths: marked, checked, marked again, replayed with checkpoints and without, and replayed from each checkpoint.
-use crate::lines::{first, say, say_count, say_number};
+use crate::lines::first;
 use crate::making::{blank, put_marked, put_plain};
 use crate::readers::{Reader, compare, show};
 use std::io;
@@ -7,18 +7,16 @@ use std::io;
 // Whether the replay from each of some checkpoints says what the whole replay says of the operations behind it, and its end. Before that stand the line of the head and one
 // for each operation.
 pub(crate) fn show_tails(rt: &impl Print, marked: &[u8], from: u32, to: u32) -> io::Result<()> {
-    let mut k = from;
-    while k < to {
-        say_number(rt, b"  the tail from ", k as usize)?;
+    for k in from..to {
+        print!(rt; "  the tail from {k}")?;
         let lines = 1 + 256 * (k as usize + 1);
         compare(rt, Reader::From(k), marked, Reader::Replay, marked, lines)?;
-        k += 1;
     }
     Ok(())
 }
 
 fn show_size(rt: &impl Print, source: &[u8], operations: u32) -> io::Result<()> {
-    say_count(rt, operations as usize, b" operations\n")?;
+    println!(rt; "{operations} operations")?;
     let mut bytes = blank();
     let n = put_plain(source, operations, &mut bytes);
     let plain = first(&bytes, n);
@@ -27,19 +25,16 @@ fn show_size(rt: &impl Print, source: &[u8], operations: u32) -> io::Result<()> 
     let marked = first(&more, m);
     show(rt, Reader::Mark, plain)?;
     show(rt, Reader::Check, marked)?;
-    say(rt, b"  marked again")?;
+    print!(rt; "  marked again")?;
     compare(rt, Reader::Mark, marked, Reader::Mark, plain, 0)?;
-    say(rt, b"  replayed with checkpoints")?;
+    print!(rt; "  replayed with checkpoints")?;
     compare(rt, Reader::Replay, marked, Reader::Replay, plain, 0)?;
     show_tails(rt, marked, 0, operations / 256)
 }
 
 pub(crate) fn show_all(rt: &impl Print, source: &[u8]) -> io::Result<()> {
-    show_size(rt, source, 0)?;
-    show_size(rt, source, 1)?;
-    show_size(rt, source, 255)?;
-    show_size(rt, source, 256)?;
-    show_size(rt, source, 257)?;
-    show_size(rt, source, 512)?;
-    show_size(rt, source, 4096)
+    for operations in [0, 1, 255, 256, 257, 512, 4096] {
+        show_size(rt, source, operations)?;
+    }
+    Ok(())
 }

@@ -4,12 +4,15 @@
 ghost use Rattle.std.specs.Prelude.{◌≡◌, ◌≤◌, ◌<◌, length, take, OnOk, IfOk, IfErr, IfSome};
 ghost use Rattle.std.specs.Io.KnownBytes.{Appends};
 ghost use Rattle.std.specs.Process.{exit_status};
+ghost use Rattle.trace.specs.Answer.{fault_of};
+ghost use Rattle.words.specs.Faults.{fault_sentence};
 ghost use Rattle.console.specs.Status.{status_of, IsReading, IsWriting};
 
 use std::alloc::{AllocError, Global};
 use std::io;
 use std::io::{ErrorKind, Read, Write};
 use std::process::ExitCode;
+use trace::Fault;
 
 /// More than the longest trace has: no byte past that counts, and an input without end is answered too.
 pub const MOST_BYTES: u64 = 65536;
@@ -59,21 +62,22 @@ pub fn print_first<W: Write>(output: &mut W, text: &[u8], number: usize) -> Resu
     print(output, &text[..number])
 }
 
+/// The fault of a refused trace as a sentence.
+pub fn print_fault<W: Write>(output: &mut W, trace: &[u8], fault: Fault) -> Result<(), Failure>
+    ensures ok { OnOk result (Appends (W.contents output.old) (W.contents output.new) (fault_sentence trace.now (fault_of fault))) }
+    ensures err { IfErr result IsWriting }
+{
+    print(output, words::fault_sentence(trace, fault).as_bytes())
+}
+
 // A closed pipe is no failure to speak of: who reads the output wants no more of it.
 fn status_of(verdict: Result<Verdict, Failure>) -> u8
     ensures { result ≡ status_of verdict }
 {
     match verdict {
-        Ok(Verdict::Sound) => 0,
-        Ok(Verdict::Refused) => 0,
-        Err(Failure::CannotRead(_)) => 2,
-        Err(Failure::CannotWrite(e)) => {
-            if e.kind() == ErrorKind::BrokenPipe {
-                141
-            } else {
-                2
-            }
-        }
+        Ok(_) => 0,
+        Err(Failure::CannotWrite(e)) if e.kind() == ErrorKind::BrokenPipe => 141,
+        Err(_) => 2,
     }
 }
 

@@ -13,29 +13,25 @@ const OLD_LATCH: u16 = 0x5AA5;
 
 fn taken(element: u16) -> u16 {
     if element % 16 != 0 {
-        return 0x1;
+        0x1
+    } else if element / 16 % 16 != 0 {
+        0x7
+    } else if element / 16 / 16 % 16 != 0 {
+        0x67
+    } else {
+        0x667
     }
-    if element / 16 % 16 != 0 {
-        return 0x7;
-    }
-    if element / 16 / 16 % 16 != 0 {
-        return 0x67;
-    }
-    0x667
 }
 
-// What is taken is never above the number: nothing wraps in BCD.
+// What is taken is never above the number: nothing wraps but 0.
 fn below(element: u16, bcd: bool) -> u16 {
-    if bcd {
-        if element == 0 {
-            return 0x9999;
-        }
-        return std::num::wrapping_sub_u16(element, taken(element));
+    if !bcd {
+        element.wrapping_sub(1)
+    } else if element == 0 {
+        0x9999
+    } else {
+        element.wrapping_sub(taken(element))
     }
-    if element == 0 {
-        return 65535;
-    }
-    element - 1
 }
 
 // What many counts leave, in a way of its own. A start with a digit above 9 goes down by document 01's rule, the ones in one leap, until its
@@ -47,16 +43,7 @@ struct Left {
 }
 
 fn good(element: u16) -> bool {
-    if element / 4096 > 9 {
-        return false;
-    }
-    if element / 256 % 16 > 9 {
-        return false;
-    }
-    if element / 16 % 16 > 9 {
-        return false;
-    }
-    element % 16 < 10
+    element / 4096 < 10 && element / 256 % 16 < 10 && element / 16 % 16 < 10 && element % 16 < 10
 }
 
 // The ones at once, as far as there are counts; where they are 0, one count.
@@ -71,24 +58,17 @@ fn leapt(l: Left) -> Left
             number: l.number - 1,
         };
     }
-    if l.number < ones as u32 {
-        return Left {
-            element: std::num::wrapping_sub_u16(l.element, l.number as u16),
-            number: 0,
-        };
-    }
+    let counts = l.number.min(u32::from(ones));
     Left {
-        element: l.element - ones,
-        number: l.number - (ones as u32),
+        element: l.element - counts as u16,
+        number: l.number - counts,
     }
 }
 
+// No index is counted here: each leap makes as many counts as it can.
 fn made_good(start: Left) -> Left {
     let mut l = start;
-    while l.number > 0 {
-        if good(l.element) {
-            return l;
-        }
+    while l.number > 0 && !good(l.element) {
         l = leapt(l);
     }
     l
@@ -104,29 +84,27 @@ fn digits(value: u32) -> u16 {
 }
 
 fn decimal(element: u16) -> u32 {
-    let e = element as u32;
+    let e = u32::from(element);
     e / 4096 * 1000 + e / 256 % 16 * 100 + e / 16 % 16 * 10 + e % 16
 }
 
 fn left_after(element: u16, bcd: bool, number: u32) -> u16 {
-    if bcd {
-        let l = made_good(Left { element, number });
-        if l.number == 0 {
-            return l.element;
-        }
-        let value = decimal(l.element) % 10000;
-        return digits(value + 10000 - l.number % 10000);
+    if !bcd {
+        return ((u32::from(element) + 65536 - number % 65536) % 65536) as u16;
     }
-    ((element as u32 + 65536 - number % 65536) % 65536) as u16
+    let l = made_good(Left { element, number });
+    if l.number == 0 {
+        return l.element;
+    }
+    digits(decimal(l.element) % 10000 + 10000 - l.number % 10000)
 }
 
 // Every second start has counted before, to be seen where no count must leave it so.
 fn starting(element: u16, bcd: bool, latched: bool) -> Channel {
-    let ticked = element % 2 == 1;
     let mut c = Channel::fresh();
     c.control.bcd_mode = bcd;
     c.counter.counting_element = element;
-    c.counter.ticked = ticked;
+    c.counter.ticked = element % 2 == 1;
     c.latch.output_latch = OLD_LATCH;
     c.latch.count_is_latched = latched;
     c
@@ -134,25 +112,21 @@ fn starting(element: u16, bcd: bool, latched: bool) -> Channel {
 
 // Whether a record that has counted is not as it should be: element, output latch, whether it is latched, or `ticked`.
 fn differs(c: Channel, element: u16, latch: u16, latched: bool, ticked: bool) -> bool {
-    let k = c.counter;
-    let l = c.latch;
-    if k.counting_element != element {
-        return true;
-    }
-    if l.output_latch != latch {
-        return true;
-    }
-    if l.count_is_latched != latched {
-        return true;
-    }
-    k.ticked != ticked
+    c.counter.counting_element != element
+        || c.latch.output_latch != latch
+        || c.latch.count_is_latched != latched
+        || c.counter.ticked != ticked
+}
+
+// The latch follows the element, but for one that is held.
+fn differs_from(c: Channel, element: u16, latched: bool) -> bool {
+    let latch = if latched { OLD_LATCH } else { element };
+    differs(c, element, latch, latched, true)
 }
 
 fn one_differs(start: u16, bcd: bool, latched: bool) -> bool {
     let c = count::count(starting(start, bcd, latched));
-    let right = below(start, bcd);
-    let latch = if latched { OLD_LATCH } else { right };
-    differs(c, right, latch, latched, true)
+    differs_from(c, below(start, bcd), latched)
 }
 
 // A few in one call, none among them, and as many single counts.
@@ -162,81 +136,53 @@ fn few_differ(start: u16, bcd: bool, latched: bool, number: u32) -> bool {
     for _ in 0..number {
         single = count::count(single);
     }
-    let right = single.counter;
-    let l = single.latch;
     differs(
         c,
-        right.counting_element,
-        l.output_latch,
-        l.count_is_latched,
-        right.ticked,
+        single.counter.counting_element,
+        single.latch.output_latch,
+        single.latch.count_is_latched,
+        single.counter.ticked,
     )
 }
 
 fn many_differ(start: u16, bcd: bool, latched: bool, number: u32) -> bool {
     let c = count::counts(starting(start, bcd, latched), number);
-    let right = left_after(start, bcd, number);
-    let latch = if latched { OLD_LATCH } else { right };
-    differs(c, right, latch, latched, true)
+    differs_from(c, left_after(start, bcd, number), latched)
 }
 
-// What is asked of a start: one count, a few, many.
-#[derive(Clone, Copy)]
-enum Asked {
-    One,
-    Few(u32),
-    Many(u32),
-}
-
-fn asked_differs(asked: Asked, start: u32, bcd: bool, latched: bool) -> bool {
-    let element = (start % 65536) as u16;
-    match asked {
-        Asked::One => one_differs(element, bcd, latched),
-        Asked::Few(number) => few_differ(element, bcd, latched, number),
-        Asked::Many(number) => many_differ(element, bcd, latched, number),
+// How many starts differ, by what is asked of each: a start, whether it counts in BCD, and whether it is latched.
+fn report<F: Fn(u16, bool, bool) -> bool>(rt: &impl Print, differs: F) -> io::Result<()>
+    requires { F.IsAlwaysCallable differs }
+{
+    for bcd in [false, true] {
+        for latched in [false, true] {
+            let radix = if bcd { "decimal" } else { "binary" };
+            let held = if latched { ", latched" } else { "" };
+            let wrong = (0..=u16::MAX)
+                .filter(|start| differs(*start, bcd, latched))
+                .count();
+            println!(rt; "{radix}{held}: 65536 starts, differing {wrong}")?;
+        }
     }
-}
-
-fn differing(asked: Asked, bcd: bool, latched: bool) -> usize {
-    (0..65536)
-        .filter(|start| asked_differs(asked, *start, bcd, latched))
-        .count()
-}
-
-fn report(rt: &impl Print, asked: Asked, bcd: bool, latched: bool) -> io::Result<()> {
-    let radix = if bcd { "decimal" } else { "binary" };
-    let held = if latched { ", latched" } else { "" };
-    let wrong = differing(asked, bcd, latched);
-    println!(rt; "{radix}{held}: 65536 starts, differing {wrong}")
-}
-
-fn report_all(rt: &impl Print, asked: Asked) -> io::Result<()> {
-    report(rt, asked, false, false)?;
-    report(rt, asked, false, true)?;
-    report(rt, asked, true, false)?;
-    report(rt, asked, true, true)
-}
-
-fn few(rt: &impl Print, number: u32) -> io::Result<()> {
-    println!(rt; "as single counts, {number}")?;
-    report_all(rt, Asked::Few(number))
-}
-
-fn many(rt: &impl Print, number: u32) -> io::Result<()> {
-    println!(rt; "in leaps, {number}")?;
-    report_all(rt, Asked::Many(number))
+    Ok(())
 }
 
 fn main(rt: HostRuntime) -> io::Result<()> {
     println!(rt; "one count")?;
-    report_all(&rt, Asked::One)?;
+    report(&rt, one_differs)?;
     for number in [0, 1, 2, 3, 4, 11] {
-        few(&rt, number)?;
+        println!(rt; "as single counts, {number}")?;
+        report(&rt, |start, bcd, latched| {
+            few_differ(start, bcd, latched, number)
+        })?;
     }
     for number in [
         9, 10, 24, 25, 50, 999, 6665, 9999, 10000, 10001, 65535, 65536, 65537, 4294967295,
     ] {
-        many(&rt, number)?;
+        println!(rt; "in leaps, {number}")?;
+        report(&rt, |start, bcd, latched| {
+            many_differ(start, bcd, latched, number)
+        })?;
     }
     Ok(())
 }

@@ -4,26 +4,22 @@
 
 use console::{Failure, Verdict};
 use line::sentence::Sentence;
-use runner::lending::Replayed;
 use std::io::Write;
 use std::process::ExitCode;
 use trace::Fault;
-use trace::head::Judged;
 
-// The line that the replay prints, and a sentence. That they could not be written is let go.
-fn say_fault<E: Write>(error: &mut E, trace: &[u8], fault: Fault) {
+// The line that the replay prints, and the sentence. That they could not be written is let go.
+fn print_both<E: Write>(error: &mut E, trace: &[u8], fault: Fault) {
     let line = line::line_of(Sentence::Fault(fault));
-    let _ = console::print_first(error, &line.bytes, line.len);
-    let sentence = words::fault_sentence(trace, fault);
-    let _ = console::print_first(error, &sentence.bytes, sentence.len);
+    let _ = console::print(error, line.as_bytes());
+    let _ = console::print_fault(error, trace, fault);
 }
 
 fn write_marked<W: Write>(output: &mut W, trace: &[u8]) -> Result<(), Failure> {
     let mut marked = [0u8; trace::LONGEST_TRACE];
     match checkpoint::mark_into(trace, &mut marked) {
-        Replayed::Written(n) => console::print_first(output, &marked, n),
-        Replayed::Refused(_, _) => Ok(()),
-        Replayed::Short => Ok(()),
+        Ok(n) => console::print_first(output, &marked, n),
+        Err(_) => Ok(()),
     }
 }
 
@@ -33,11 +29,11 @@ fn mark<W: Write, E: Write>(
     trace: &[u8],
 ) -> Result<Verdict, Failure> {
     match trace::judge(trace) {
-        Judged::Refused(fault) => {
-            say_fault(error, trace, fault);
+        Err(fault) => {
+            print_both(error, trace, fault);
             Ok(Verdict::Refused)
         }
-        Judged::Sound(_) => {
+        Ok(_) => {
             write_marked(output, trace)?;
             Ok(Verdict::Sound)
         }
@@ -45,9 +41,10 @@ fn mark<W: Write, E: Write>(
 }
 
 fn main(rt: HostRuntime) -> ExitCode {
-    let verdict = match console::read_trace(rt.alloc(), rt.reader()) {
-        Ok(trace) => mark(&mut rt.stdout(), &mut rt.stderr(), trace.as_slice()),
-        Err(failure) => Err(failure),
-    };
+    let verdict = console::read_trace(rt.alloc(), rt.reader()).and_then(|trace| mark(
+        &mut rt.stdout(),
+        &mut rt.stderr(),
+        trace.as_slice(),
+    ));
     console::end(&rt, verdict)
 }

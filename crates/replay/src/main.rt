@@ -5,19 +5,6 @@
 use console::{Failure, Verdict};
 use std::io::Write;
 use std::process::ExitCode;
-use trace::head::Judged;
-
-// One sentence of a refused trace, and nothing of a sound one. That it could not be written is let go.
-fn say_fault<E: Write>(error: &mut E, trace: &[u8]) -> Verdict {
-    match trace::judge(trace) {
-        Judged::Sound(_) => Verdict::Sound,
-        Judged::Refused(fault) => {
-            let sentence = words::fault_sentence(trace, fault);
-            let _ = console::print_first(error, &sentence.bytes, sentence.len);
-            Verdict::Refused
-        }
-    }
-}
 
 fn print_replay<W: Write>(output: &mut W, trace: &[u8]) -> Result<(), Failure> {
     let mut text = [0u8; runner::TEXT_ROOM];
@@ -25,19 +12,27 @@ fn print_replay<W: Write>(output: &mut W, trace: &[u8]) -> Result<(), Failure> {
     console::print(output, &text[..length])
 }
 
+// Behind the replay one sentence of a refused trace, and nothing of a sound one. That the sentence could not be written is let go.
 fn answer<W: Write, E: Write>(
     output: &mut W,
     error: &mut E,
     trace: &[u8],
 ) -> Result<Verdict, Failure> {
     print_replay(output, trace)?;
-    Ok(say_fault(error, trace))
+    match trace::judge(trace) {
+        Ok(_) => Ok(Verdict::Sound),
+        Err(fault) => {
+            let _ = console::print_fault(error, trace, fault);
+            Ok(Verdict::Refused)
+        }
+    }
 }
 
 fn main(rt: HostRuntime) -> ExitCode {
-    let verdict = match console::read_trace(rt.alloc(), rt.reader()) {
-        Ok(trace) => answer(&mut rt.stdout(), &mut rt.stderr(), trace.as_slice()),
-        Err(failure) => Err(failure),
-    };
+    let verdict = console::read_trace(rt.alloc(), rt.reader()).and_then(|trace| answer(
+        &mut rt.stdout(),
+        &mut rt.stderr(),
+        trace.as_slice(),
+    ));
     console::end(&rt, verdict)
 }

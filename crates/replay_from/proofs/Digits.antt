@@ -1,5 +1,7 @@
 -- What the bytes from a place on spell: a byte that is no digit, one digit, and none left.
 use Prim.Native.Nat.{ℕ, ◌+◌, ◌≤◌, ◌<◌}
+use mathlib.Core.Logic.{◌⊎◌, inl, inr}
+use Rattle.std.proofs.Common.{arith}
 use mathlib.Core.Path.{◌≡◌, refl}
 use mathlib.Core.List.{List}
 use native.Mathlib.Numerals.{add-one}
@@ -9,13 +11,17 @@ use borrow.Author.Tests.{lt-ltb, le-ltb}
 use Rattle.replay_from.specs.Decimal.{largest, appended, spelled_on}
 
 module _ (digits : List ℕ) (n i : ℕ) (more : i < length digits) where
-  pub too-low : get_or digits i 0 < 48 → spelled_on n (drop i digits) ≡ largest
+  too-low : get_or digits i 0 < 48 → spelled_on n (drop i digits) ≡ largest
   unfolding spelled_on
   too-low low = rw (drop-cons digits i 0 more, lt-ltb _ _ low) refl
 
-  pub too-high : 48 ≤ get_or digits i 0 → 57 < get_or digits i 0 → spelled_on n (drop i digits) ≡ largest
+  too-high : 48 ≤ get_or digits i 0 → 57 < get_or digits i 0 → spelled_on n (drop i digits) ≡ largest
   unfolding spelled_on
   too-high from high = rw (drop-cons digits i 0 more, le-ltb _ _ from, lt-ltb _ _ high) refl
+
+  pub no_digit : (get_or digits i 0 < 48) ⊎ (57 < get_or digits i 0) → spelled_on n (drop i digits) ≡ largest
+  no_digit (inl low) = too-low low
+  no_digit (inr high) = too-high (omega arith) high
 
   pub one-more : 48 ≤ get_or digits i 0 → get_or digits i 0 ≤ 57 → spelled_on n (drop i digits) ≡ spelled_on (appended n (get_or digits i 0)) (drop (i + 1) digits)
   unfolding spelled_on

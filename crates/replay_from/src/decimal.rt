@@ -2,40 +2,30 @@
 ghost use Rattle.replay_from.specs.Decimal.{appended, spelled};
 ghost use Rattle.std.specs.Prelude.{◌≡◌, ◌≤◌};
 
-// What is no number counts as this one, and so does a number above it. No trace has so many checkpoints.
-const LARGEST: u32 = 4294967295;
-
 // The number with one digit more behind it.
-fn appended(number: u32, byte: u8) -> u32
-    requires { 48 ≤ byte }
-    ensures { result ≡ appended number byte }
+#[tactic(auto, unfolding(crate::specs::Decimal::appended))]
+fn appended(number: u32, digit: u8) -> u32
+    requires { 48 ≤ digit }
+    ensures { result ≡ appended number digit }
 {
-    let longer = 10 * (number as u64) + ((byte - b'0') as u64);
-    if (LARGEST as u64) < longer {
-        return LARGEST;
-    }
-    longer as u32
+    number
+        .saturating_mul(10)
+        .saturating_add(u32::from(digit - b'0'))
 }
 
-// The number that the digits spell. An argument that is missing, or longer than its buffer, has none of them.
+// The number that the digits spell. What is no number counts as the largest, and so does a number above it: no trace has so many checkpoints.
 pub(crate) fn number(digits: &[u8]) -> u32
     ensures { result ≡ spelled digits.now }
 {
-    if digits.len() == 0 {
-        return LARGEST;
+    if digits.is_empty() {
+        return u32::MAX;
     }
-    let mut n: u32 = 0;
-    let mut i = 0;
-    while i < digits.len() {
-        let byte = digits[i];
-        if byte < b'0' {
-            return LARGEST;
+    let mut n = 0;
+    for digit in digits {
+        if !digit.is_ascii_digit() {
+            return u32::MAX;
         }
-        if b'9' < byte {
-            return LARGEST;
-        }
-        n = appended(n, byte);
-        i += 1;
+        n = appended(n, *digit);
     }
     n
 }

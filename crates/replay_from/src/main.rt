@@ -4,9 +4,7 @@
 
 mod decimal;
 
-use checkpoint::starting::Start;
 use console::{Failure, Verdict};
-use runner::lending::Replayed;
 use std::env::Env;
 use std::io::Write;
 use std::process::ExitCode;
@@ -22,27 +20,15 @@ fn checkpoint_asked(rt: &impl Env) -> u32 {
     }
 }
 
-// One sentence where no replay begins, and nothing where one does. That it could not be written is let go.
-fn say_fault<E: Write>(error: &mut E, trace: &[u8], k: u32) -> Verdict {
-    match checkpoint::starting::start_of(trace, k) {
-        Start::Refused(fault) => {
-            let sentence = words::fault_sentence(trace, fault);
-            let _ = console::print_first(error, &sentence.bytes, sentence.len);
-            Verdict::Refused
-        }
-        Start::There => Verdict::Sound,
-    }
-}
-
 fn print_from<W: Write>(output: &mut W, trace: &[u8], k: u32) -> Result<(), Failure> {
     let mut text = [0u8; runner::TEXT_ROOM];
     match checkpoint::replay_from_into(trace, k, &mut text) {
-        Replayed::Written(n) => console::print_first(output, &text, n),
-        Replayed::Refused(_, _) => Ok(()),
-        Replayed::Short => Ok(()),
+        Ok(n) => console::print_first(output, &text, n),
+        Err(_) => Ok(()),
     }
 }
 
+// Behind the replay one sentence where none begins, and nothing where one does. That the sentence could not be written is let go.
 fn answer<W: Write, E: Write>(
     output: &mut W,
     error: &mut E,
@@ -50,14 +36,22 @@ fn answer<W: Write, E: Write>(
     k: u32,
 ) -> Result<Verdict, Failure> {
     print_from(output, trace, k)?;
-    Ok(say_fault(error, trace, k))
+    match checkpoint::starting::start_of(trace, k) {
+        Ok(()) => Ok(Verdict::Sound),
+        Err(fault) => {
+            let _ = console::print_fault(error, trace, fault);
+            Ok(Verdict::Refused)
+        }
+    }
 }
 
 fn main(rt: HostRuntime) -> ExitCode {
     let k = checkpoint_asked(&rt);
-    let verdict = match console::read_trace(rt.alloc(), rt.reader()) {
-        Ok(trace) => answer(&mut rt.stdout(), &mut rt.stderr(), trace.as_slice(), k),
-        Err(failure) => Err(failure),
-    };
+    let verdict = console::read_trace(rt.alloc(), rt.reader()).and_then(|trace| answer(
+        &mut rt.stdout(),
+        &mut rt.stderr(),
+        trace.as_slice(),
+        k,
+    ));
     console::end(&rt, verdict)
 }

@@ -3,13 +3,18 @@
 // trace on standard input, which is case R. Of section three only its first byte is tried: the rest is in checkpoint_limits.
 #![tactic(auto)]
 
+mod making;
 mod prefixes;
 
+use making::{Head, Operation, begin, push, sound};
 use std::io;
 use std::io::Read;
 
-// Where 4,096 operations end. The arrays have room for one byte more.
+// Where 4,096 operations end.
 const LONGEST: usize = trace::OPERATIONS_END;
+
+// Where one operation ends.
+const WHOLE: usize = 22;
 
 // More than case R has.
 const MOST_BYTES: u64 = 4096;
@@ -17,322 +22,179 @@ const MOST_BYTES: u64 = 4096;
 // The room that a replay is lent: no replay prints more.
 pub(crate) const TEXT: usize = runner::TEXT_ROOM;
 
-// Divisor 12 on the 8253, or what a case is about.
-#[derive(Clone, Copy)]
-struct Settings {
-    count: u32,
-    divisor: u32,
-    model: u32,
-    operations: u32,
-}
+// Of a long replay so many of its last bytes are printed.
+const END: usize = 54;
 
-#[derive(Clone, Copy)]
-struct Operation {
-    code: u8,
-    target: u8,
-    number: u32,
-}
-
-fn put_byte(trace: &mut [u8], place: usize, byte: u8) {
-    if place < trace.len() {
-        trace[place] = byte;
-    }
-}
-
-fn put_number(trace: &mut [u8], place: usize, number: u32) {
-    if place < LONGEST {
-        put_byte(trace, place, (number % 256) as u8);
-        put_byte(trace, place + 1, (number / 256 % 256) as u8);
-        put_byte(trace, place + 2, (number / 65536 % 256) as u8);
-        put_byte(trace, place + 3, (number / 16777216) as u8);
-    }
-}
-
-fn put_settings(trace: &mut [u8], s: Settings) {
-    put_number(trace, 0, s.count);
-    put_number(trace, 4, s.divisor);
-    put_number(trace, 8, s.model);
-    put_number(trace, 12, s.operations);
-}
-
-fn put_operation(trace: &mut [u8], index: u32, o: Operation) {
-    if index < 4096 {
-        let place = 16 + 6 * (index as usize);
-        put_byte(trace, place, o.code);
-        put_byte(trace, place + 1, o.target);
-        put_number(trace, place + 2, o.number);
-    }
-}
-
-// All operations read the command port.
-fn put_reads(trace: &mut [u8], number: u32) {
-    for k in 0..number {
-        put_operation(
-            trace,
-            k,
-            Operation {
-                code: 2,
-                target: 0x43,
-                number: 0,
-            },
-        );
-    }
-}
-
-// The last bytes of the replay of so many bytes, at most as many as are asked for.
-fn show_end(
-    rt: &impl Print,
-    name: &str,
-    trace: &[u8],
-    length: usize,
-    most: usize,
-) -> io::Result<()> {
-    print!(rt; "{name}: ")?;
-    if trace.len() < length {
-        return Ok(());
-    }
+fn show(rt: &impl Print, name: &str, trace: &[u8]) -> io::Result<()> {
     let mut output = [0u8; TEXT];
-    let printed = runner::replay(&trace[..length], &mut output);
-    if most < printed {
-        print!(rt; "{printed} bytes, the last of them ")?;
-        rt.write_all(&output[printed - most..printed])
-    } else {
-        rt.write_all(&output[..printed])
-    }
+    let printed = runner::replay(trace, &mut output);
+    print!(rt; "{name}: ")?;
+    rt.write_all(&output[..printed])
 }
 
-fn show(rt: &impl Print, name: &str, trace: &[u8], length: usize) -> io::Result<()> {
-    show_end(rt, name, trace, length, TEXT)
-}
-
-fn sound_settings(operations: u32) -> Settings {
-    Settings {
-        count: 2,
-        divisor: 12,
-        model: 0,
-        operations,
+fn show_end(rt: &impl Print, name: &str, trace: &[u8]) -> io::Result<()> {
+    let mut output = [0u8; TEXT];
+    let printed = runner::replay(trace, &mut output);
+    print!(rt; "{name}: ")?;
+    if printed <= END {
+        return rt.write_all(&output[..printed]);
     }
+    print!(rt; "{printed} bytes, the last of them ")?;
+    rt.write_all(&output[printed - END..printed])
 }
 
 // No operation, and as many bytes as the case has.
-fn head(rt: &impl Print, name: &str, s: Settings, length: usize) -> io::Result<()> {
-    let mut trace = [0u8; LONGEST + 1];
-    put_settings(&mut trace, s);
-    show(rt, name, &trace, length)
+fn head<R: Print + AllocGlobal>(rt: &R, name: &str, head: Head, length: usize) -> io::Result<()> {
+    let mut trace = begin(rt.alloc(), head)?;
+    trace.resize(length, 0)?;
+    show(rt, name, trace.as_slice())
 }
 
 // One operation, and as many bytes as the case has.
-fn one(rt: &impl Print, name: &str, o: Operation, length: usize) -> io::Result<()> {
-    let mut trace = [0u8; LONGEST + 1];
-    put_settings(&mut trace, sound_settings(1));
-    put_operation(&mut trace, 0, o);
-    show(rt, name, &trace, length)
-}
-
-fn whole(rt: &impl Print, name: &str, code: u8, target: u8, number: u32) -> io::Result<()> {
-    let operation = Operation {
-        code,
-        target,
-        number,
-    };
-    one(rt, name, operation, 22)
-}
-
-// 4,096 operations, the last of them the case's.
-fn last(
-    rt: &impl Print,
+fn one<R: Print + AllocGlobal>(
+    rt: &R,
     name: &str,
-    code: u8,
-    target: u8,
-    number: u32,
+    operation: Operation,
     length: usize,
 ) -> io::Result<()> {
-    let mut trace = [0u8; LONGEST + 1];
-    put_settings(&mut trace, sound_settings(4096));
-    put_reads(&mut trace, 4095);
-    put_operation(
-        &mut trace,
-        4095,
-        Operation {
-            code,
-            target,
-            number,
-        },
-    );
-    show_end(rt, name, &trace, length, 54)
+    let mut trace = begin(rt.alloc(), sound(1))?;
+    push(&mut trace, operation)?;
+    trace.resize(length, 0)?;
+    show(rt, name, trace.as_slice())
 }
 
-fn heads(rt: &impl Print) -> io::Result<()> {
-    head(rt, "empty", sound_settings(0), 0)?;
-    head(rt, "three bytes", sound_settings(0), 3)?;
-    head(
-        rt,
-        "settings count 1",
-        Settings {
-            count: 1,
-            divisor: 12,
-            model: 0,
-            operations: 0,
-        },
-        16,
-    )?;
-    head(
-        rt,
-        "settings count 3, no more bytes",
-        Settings {
-            count: 3,
-            divisor: 12,
-            model: 0,
-            operations: 0,
-        },
-        4,
-    )?;
-    head(rt, "no divisor", sound_settings(0), 4)?;
-    head(
-        rt,
-        "divisor 0",
-        Settings {
-            count: 2,
-            divisor: 0,
-            model: 2,
-            operations: 4097,
-        },
-        16,
-    )?;
-    head(rt, "no model", sound_settings(0), 8)
+// 4,096 operations, the last of them the case's. The others read the command port.
+fn last<R: Print + AllocGlobal>(
+    rt: &R,
+    name: &str,
+    operation: Operation,
+    length: usize,
+) -> io::Result<()> {
+    let mut trace = begin(rt.alloc(), sound(4096))?;
+    for _ in 0..4095 {
+        push(&mut trace, Operation(2, 0x43, 0))?;
+    }
+    push(&mut trace, operation)?;
+    trace.resize(length, 0)?;
+    show_end(rt, name, trace.as_slice())
 }
 
-fn more_heads(rt: &impl Print) -> io::Result<()> {
-    head(
-        rt,
-        "model 2",
-        Settings {
-            count: 2,
-            divisor: 1,
-            model: 2,
-            operations: 4097,
-        },
-        16,
-    )?;
-    head(rt, "no operation count", sound_settings(0), 15)?;
-    head(rt, "4,097 operations", sound_settings(4097), 16)?;
-    head(rt, "4,096 operations, none there", sound_settings(4096), 16)?;
-    head(rt, "no operation", sound_settings(0), 16)?;
-    head(
-        rt,
-        "no operation, 8254, largest divisor",
-        Settings {
-            count: 2,
-            divisor: 4294967295,
-            model: 1,
-            operations: 0,
-        },
-        16,
-    )?;
-    head(rt, "no operation, a byte more", sound_settings(0), 17)
+fn heads<R: Print + AllocGlobal>(rt: &R) -> io::Result<()> {
+    for (name, of, length) in [
+        ("empty", sound(0), 0),
+        ("three bytes", sound(0), 3),
+        ("settings count 1", Head(1, 12, 0, 0), 16),
+        ("settings count 3, no more bytes", Head(3, 12, 0, 0), 4),
+        ("no divisor", sound(0), 4),
+        ("divisor 0", Head(2, 0, 2, 4097), 16),
+        ("no model", sound(0), 8),
+        ("model 2", Head(2, 1, 2, 4097), 16),
+        ("no operation count", sound(0), 15),
+        ("4,097 operations", sound(4097), 16),
+        ("4,096 operations, none there", sound(4096), 16),
+        ("no operation", sound(0), 16),
+        (
+            "no operation, 8254, largest divisor",
+            Head(2, 4294967295, 1, 0),
+            16,
+        ),
+        ("no operation, a byte more", sound(0), 17),
+    ] {
+        head(rt, name, of, length)?;
+    }
+    Ok(())
 }
 
-fn rules(rt: &impl Print) -> io::Result<()> {
-    whole(rt, "code 0", 0, 0x43, 0)?;
-    whole(rt, "code 10, target and number wrong for 8", 10, 1, 1)?;
-    whole(rt, "write, number 256", 1, 0x43, 256)?;
-    whole(rt, "read, number 1", 2, 0x43, 1)?;
-    whole(rt, "gate, number 2", 3, 0, 2)?;
-    whole(rt, "load cycle, number 1", 5, 0, 1)?;
-    whole(rt, "catch-up, target 1", 6, 1, 0)?;
-    whole(rt, "run, target 255", 7, 255, 0)?;
-    whole(rt, "reset, target 1 and number 1", 8, 1, 1)?;
-    whole(rt, "reset, number 16777216", 8, 0, 16777216)?;
-    whole(rt, "work off, target 1 and number 65537", 9, 1, 65537)?;
-    one(
-        rt,
-        "code 10, a byte missing",
-        Operation {
-            code: 10,
-            target: 0,
-            number: 0,
-        },
-        21,
-    )?;
-    one(
-        rt,
-        "one operation, a byte more",
-        Operation {
-            code: 8,
-            target: 0,
-            number: 0,
-        },
-        23,
-    )
+fn rules<R: Print + AllocGlobal>(rt: &R) -> io::Result<()> {
+    for (name, operation) in [
+        ("code 0", Operation(0, 0x43, 0)),
+        (
+            "code 10, target and number wrong for 8",
+            Operation(10, 1, 1),
+        ),
+        ("write, number 256", Operation(1, 0x43, 256)),
+        ("read, number 1", Operation(2, 0x43, 1)),
+        ("gate, number 2", Operation(3, 0, 2)),
+        ("load cycle, number 1", Operation(5, 0, 1)),
+        ("catch-up, target 1", Operation(6, 1, 0)),
+        ("run, target 255", Operation(7, 255, 0)),
+        ("reset, target 1 and number 1", Operation(8, 1, 1)),
+        ("reset, number 16777216", Operation(8, 0, 16777216)),
+        (
+            "work off, target 1 and number 65537",
+            Operation(9, 1, 65537),
+        ),
+    ] {
+        one(rt, name, operation, WHOLE)?;
+    }
+    one(rt, "code 10, a byte missing", Operation(10, 0, 0), 21)?;
+    one(rt, "one operation, a byte more", Operation(8, 0, 0), 23)
 }
 
 // Just sound, so that only the board refuses.
-fn when_run(rt: &impl Print) -> io::Result<()> {
-    whole(rt, "write, number 255", 1, 0x43, 255)?;
-    whole(rt, "write, port 255", 1, 255, 0)?;
-    whole(rt, "read, port 0", 2, 0, 0)?;
-    whole(rt, "gate, number 1", 3, 0, 1)?;
-    whole(rt, "gate, channel 255", 3, 255, 1)?;
-    whole(rt, "counts, number 65537", 4, 0, 65537)?;
-    whole(rt, "counts, number 4294967295", 4, 2, 4294967295)?;
-    whole(rt, "counts, channel 3, number 4294967295", 4, 3, 4294967295)?;
-    whole(rt, "load cycle, channel 3", 5, 3, 0)?;
-    whole(rt, "catch-up, number 4294967295", 6, 0, 4294967295)?;
-    whole(rt, "run, number 0", 7, 0, 0)?;
-    whole(rt, "reset", 8, 0, 0)?;
-    whole(rt, "work off, number 65536", 9, 0, 65536)?;
-    whole(rt, "work off, number 65537", 9, 0, 65537)?;
-    whole(rt, "work off, number 4294967295", 9, 0, 4294967295)
+fn when_run<R: Print + AllocGlobal>(rt: &R) -> io::Result<()> {
+    for (name, operation) in [
+        ("write, number 255", Operation(1, 0x43, 255)),
+        ("write, port 255", Operation(1, 255, 0)),
+        ("read, port 0", Operation(2, 0, 0)),
+        ("gate, number 1", Operation(3, 0, 1)),
+        ("gate, channel 255", Operation(3, 255, 1)),
+        ("counts, number 65537", Operation(4, 0, 65537)),
+        ("counts, number 4294967295", Operation(4, 2, 4294967295)),
+        (
+            "counts, channel 3, number 4294967295",
+            Operation(4, 3, 4294967295),
+        ),
+        ("load cycle, channel 3", Operation(5, 3, 0)),
+        ("catch-up, number 4294967295", Operation(6, 0, 4294967295)),
+        ("run, number 0", Operation(7, 0, 0)),
+        ("reset", Operation(8, 0, 0)),
+        ("work off, number 65536", Operation(9, 0, 65536)),
+        ("work off, number 65537", Operation(9, 0, 65537)),
+        ("work off, number 4294967295", Operation(9, 0, 4294967295)),
+    ] {
+        one(rt, name, operation, WHOLE)?;
+    }
+    Ok(())
 }
 
-fn last_places(rt: &impl Print) -> io::Result<()> {
-    last(rt, "4,096 operations", 2, 0x40, 0, LONGEST)?;
-    last(rt, "last code 0", 0, 0, 0, LONGEST)?;
+fn last_places<R: Print + AllocGlobal>(rt: &R) -> io::Result<()> {
+    for (name, operation) in [
+        ("4,096 operations", Operation(2, 0x40, 0)),
+        ("last code 0", Operation(0, 0, 0)),
+        (
+            "last code 10, target and number wrong for 8",
+            Operation(10, 1, 1),
+        ),
+        ("last is a write, number 256", Operation(1, 0x43, 256)),
+        ("last is a read, number 1", Operation(2, 0x43, 1)),
+        ("last is a gate, number 2", Operation(3, 0, 2)),
+        ("last is a load cycle, number 1", Operation(5, 0, 1)),
+        ("last is a catch-up, target 1", Operation(6, 1, 0)),
+        ("last is a run, target 255", Operation(7, 255, 0)),
+        ("last is a reset, target 1 and number 1", Operation(8, 1, 1)),
+        (
+            "last is a reset, number 16777216",
+            Operation(8, 0, 16777216),
+        ),
+        (
+            "last is a work off, target 1 and number 65537",
+            Operation(9, 1, 65537),
+        ),
+    ] {
+        last(rt, name, operation, LONGEST)?;
+    }
+    last(rt, "last byte missing", Operation(2, 0x40, 0), LONGEST - 1)?;
     last(
         rt,
-        "last code 10, target and number wrong for 8",
-        10,
-        1,
-        1,
-        LONGEST,
-    )?;
-    last(rt, "last is a write, number 256", 1, 0x43, 256, LONGEST)?;
-    last(rt, "last is a read, number 1", 2, 0x43, 1, LONGEST)?;
-    last(rt, "last is a gate, number 2", 3, 0, 2, LONGEST)?;
-    last(rt, "last is a load cycle, number 1", 5, 0, 1, LONGEST)?;
-    last(rt, "last is a catch-up, target 1", 6, 1, 0, LONGEST)?;
-    last(rt, "last is a run, target 255", 7, 255, 0, LONGEST)?;
-    last(
-        rt,
-        "last is a reset, target 1 and number 1",
-        8,
-        1,
-        1,
-        LONGEST,
-    )?;
-    last(
-        rt,
-        "last is a reset, number 16777216",
-        8,
-        0,
-        16777216,
-        LONGEST,
-    )?;
-    last(
-        rt,
-        "last is a work off, target 1 and number 65537",
-        9,
-        1,
-        65537,
-        LONGEST,
-    )?;
-    last(rt, "last byte missing", 2, 0x40, 0, LONGEST - 1)?;
-    last(rt, "last operation, a byte more", 2, 0x40, 0, LONGEST + 1)
+        "last operation, a byte more",
+        Operation(2, 0x40, 0),
+        LONGEST + 1,
+    )
 }
 
 fn main(rt: HostRuntime) -> io::Result<()> {
     heads(&rt)?;
-    more_heads(&rt)?;
     rules(&rt)?;
     when_run(&rt)?;
     last_places(&rt)?;

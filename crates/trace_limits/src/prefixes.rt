@@ -3,19 +3,20 @@
 use crate::TEXT;
 use std::io;
 
+// Both as remainders by 2 ^ 32.
 #[derive(Clone, Copy)]
 struct Sums {
-    bytes: u64,
+    bytes: u32,
     // The sums after the first byte, after the second and so on, added up: another order of the bytes gives another number.
-    sums: u64,
+    sums: u32,
 }
 
 fn sums_of(text: &[u8]) -> Sums {
-    let mut bytes: u64 = 0;
-    let mut sums: u64 = 0;
+    let mut bytes: u32 = 0;
+    let mut sums: u32 = 0;
     for byte in text {
-        bytes = (bytes + u64::from(*byte)) % 4294967296;
-        sums = (sums + bytes) % 4294967296;
+        bytes = bytes.wrapping_add(u32::from(*byte));
+        sums = sums.wrapping_add(bytes);
     }
     Sums { bytes, sums }
 }
@@ -23,9 +24,8 @@ fn sums_of(text: &[u8]) -> Sums {
 fn show(rt: &impl Print, prefix: &[u8]) -> io::Result<()> {
     let mut output = [0u8; TEXT];
     let printed = runner::replay(prefix, &mut output);
-    let digest = sums_of(&output[..printed]);
+    let Sums { bytes, sums } = sums_of(&output[..printed]);
     let length = prefix.len();
-    let (bytes, sums) = (digest.bytes, digest.sums);
     println!(rt; "{length} bytes print {printed}, sum {bytes}, sum of sums {sums}")
 }
 

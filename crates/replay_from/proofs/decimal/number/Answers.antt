@@ -1,31 +1,28 @@
 -- What is left decides.
-use Rattle.std.proofs.Common.{arith, sym, ◌∙◌}
-use borrow.Author.Tests.{eq-eqb, ne_eqb}
+use Rattle.std.proofs.Common.{arith, sym, ◌∙◌, rules}
 use Rattle.replay_from.specs.Decimal.{spelled}
-use Rattle.replay_from.proofs.Digits.{too-low, too-high, one-more, none_left}
+use Rattle.replay_from.proofs.Digits.{no_digit, one-more, none_left}
 use Rattle.replay_from.proofs.decimal.number.Goals as goal
 
-pub returns-then-digits-eq0 : goal.returns-then-digits-eq0
+pub returns-then-is_empty : goal.returns-then-is_empty
 unfolding spelled
-returns-then-digits-eq0 c = simp (eq-eqb _ _ c.if-digits-eq0.true)
+returns-then-is_empty c = search rules
 
-pub loop-i-init : goal.loop-i-init
+pub loop-digit-init : goal.loop-digit-init
 unfolding spelled
-loop-i-init c = (omega arith, simp (ne_eqb _ _ c.if-digits-eq0.false))
+loop-digit-init c = search rules
 
-pub returns-then-byte-lt48 : goal.returns-then-byte-lt48
-returns-then-byte-lt48 c = sym (too-low _ c.loop-i.n c.loop-i.i (omega arith) (omega arith)) ∙ c.loop-i.invariant.1
+pub returns-then-not-is_ascii_digit : goal.returns-then-not-is_ascii_digit
+returns-then-not-is_ascii_digit c =
+    sym (no_digit _ c.loop-digit.n c.loop-digit.digit-index (omega arith) c.if-not-is_ascii_digit.ensures.cases)
+    ∙ c.loop-digit.invariant
 
-pub returns-then-byte-gt57 : goal.returns-then-byte-gt57
-returns-then-byte-gt57 c =
-    sym (too-high _ c.loop-i.n c.loop-i.i (omega arith) (omega arith) (omega arith)) ∙ c.loop-i.invariant.1
-
-pub loop-i-preserved : goal.loop-i-preserved
-loop-i-preserved c = (
-  omega arith,
-  rw c.appended-n.ensures
-      (sym (one-more _ c.loop-i.n c.loop-i.i (omega arith) (omega arith) (omega arith)) ∙ c.loop-i.invariant.1),
-)
+pub loop-digit-preserved : goal.loop-digit-preserved
+loop-digit-preserved c =
+    rw c.appended-n.ensures
+    (sym (one-more _ c.loop-digit.n c.loop-digit.digit-index (omega arith)
+    c.if-not-is_ascii_digit.ensures.cases.0 c.if-not-is_ascii_digit.ensures.cases.1)
+    ∙ c.loop-digit.invariant)
 
 pub returns : goal.returns
-returns c = sym (none_left _ c.loop-i.n c.loop-i.i (omega arith)) ∙ c.loop-i.invariant.1
+returns c = sym (none_left _ c.loop-digit.n c.loop-digit.digit-index (omega arith)) ∙ c.loop-digit.invariant
