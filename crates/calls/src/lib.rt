@@ -1,6 +1,6 @@
 // Every call of the board by value: a board in, a board and an answer out.
 //
-// A call finds its turn (calling.rt) and has it done to the board where it stands (`turn::on_board`), so that by value, in a trace and in a host's bytes it is the same rule.
+// A call finds its turn (calling.rt) and has it done to the board where it stands (`turn::on_board`), so that by value and in a trace it is one body. A board in a host's bytes has the same parts (`in_bytes`).
 #![tactic(auto)]
 
 mod calling;

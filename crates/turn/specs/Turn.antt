@@ -64,7 +64,7 @@ on_board (turn.Say answer) = true
 abbrev pub done_on : Board → Turn → List ℕ → ℕ → Outcome
 done_on b t events place = cond (on_board t) (turned b t events place) (refuse 2 b events)
 
--- .. or where none is found: "Each returns its number and the same board"
+-- a turn that is found, or why none is: "Each returns its number and the same board"
 abbrev pub taken : Board → Result Turn Refusal → List ℕ → ℕ → Outcome
 taken b (Ok t) events place = turned b t events place
 taken b (Err refusal) events place = refuse (refusal_number refusal) b events

@@ -11,6 +11,7 @@ use ports::settle;
 use refusal::Refusal;
 
 // On channel n of a board with this model and defer flag. The event bytes and the place in them are for a write, a latch, a mode set and a gate.
+#[inline(always)]
 pub fn work_on(
     c: &mut Channel,
     n: u8,
