@@ -44,22 +44,32 @@ struct Operation {
 }
 
 fn read_operation<R: Read>(file: &mut R) -> io::Result<Operation> {
-    let mut place = [0u8; 8];
-    let mut code = [0u8; 1];
-    let mut target = [0u8; 2];
-    let mut number = [0u8; 4];
-    let mut status = [0u8; 1];
-    read_full(file, &mut place)?;
-    read_full(file, &mut code)?;
-    read_full(file, &mut target)?;
-    read_full(file, &mut number)?;
-    read_full(file, &mut status)?;
+    let mut bytes = [0u8; 16];
+    read_full(file, &mut bytes)?;
+    let [
+        p0,
+        p1,
+        p2,
+        p3,
+        p4,
+        p5,
+        p6,
+        p7,
+        code,
+        t0,
+        t1,
+        n0,
+        n1,
+        n2,
+        n3,
+        status,
+    ] = bytes;
     Ok(Operation {
-        place: usize::from_le_bytes(place),
-        code: code[0],
-        target: u16::from_le_bytes(target),
-        number: u32::from_le_bytes(number),
-        status: u32::from(status[0]),
+        place: usize::from_le_bytes([p0, p1, p2, p3, p4, p5, p6, p7]),
+        code,
+        target: u16::from_le_bytes([t0, t1]),
+        number: u32::from_le_bytes([n0, n1, n2, n3]),
+        status: u32::from(status),
     })
 }
 
@@ -126,26 +136,27 @@ fn replays(trace: &[u8], text: &[u8]) -> bool {
 
 // Whether the text that comes next in the file is what the trace's replay prints.
 fn text_case<R: Read>(file: &mut R, trace: &[u8]) -> io::Result<bool> {
+    let mut room = [0u8; TEXT_ROOM];
     let mut length = [0u8; 4];
     if read_full(file, &mut length)? < 4 {
         return Ok(false);
     }
-    let mut room = [0u8; TEXT_ROOM];
     match read_part(file, u32::from_le_bytes(length) as usize, &mut room)? {
         Some(text) => Ok(replays(trace, text)),
         None => Ok(false),
     }
 }
 
-// The trace, and the text that its replay prints: of each its length in four bytes, and its bytes.
+// The trace, and the text that its replay prints: of each its length in four bytes, and its bytes. The room comes first, here and above: a
+// function clears its locals at its start, and what stands behind a read is cleared again.
 pub(crate) fn trace_case<R: Read>(file: &mut R) -> io::Result<Option<bool>> {
+    let mut room = [0u8; TRACE_ROOM];
     let mut length = [0u8; 4];
     match read_full(file, &mut length)? {
         0 => return Ok(None),
         4 => {}
         _ => return Ok(Some(false)),
     }
-    let mut room = [0u8; TRACE_ROOM];
     match read_part(file, u32::from_le_bytes(length) as usize, &mut room)? {
         Some(trace) => Ok(Some(text_case(file, trace)?)),
         None => Ok(Some(false)),

@@ -133,6 +133,8 @@ fn clock_in(bytes: &[u8]) -> Clock
     }
 }
 
+// Inlined, so that only what the call has changed of a record is put together again, and not the whole of it in memory.
+#[inline(always)]
 fn put_channel(bytes: &mut [u8], n: usize, c: Channel)
     requires n_bound { n < 3 }
     requires holds_board { HoldsBoard bytes.old }

@@ -1,4 +1,4 @@
-// One operation on a board in lent bytes: what it does to the part that it is about, taken out of the bytes, done by value and put back.
+// One operation on a board in lent bytes: what it does to the part that it is about, taken out of the bytes, changed, and put back.
 ghost use Rattle.std.specs.Prelude.{List, ◌≡◌, ℕ, ◌<◌};
 ghost use Rattle.board.specs.Making.{restored};
 ghost use Rattle.turn.specs.Turn.{turned};
@@ -78,7 +78,9 @@ fn reset(bytes: &mut [u8])
     requires { HoldsBoard bytes.old }
     ensures { bytes.new ≡ stored (restored (board_in bytes.old)) bytes.old }
 {
-    let [c0, c1, c2] = channels_in(bytes);
+    let c0 = channel_in(bytes, 0);
+    let c1 = channel_in(bytes, 1);
+    let c2 = channel_in(bytes, 2);
     let owed = owed_in(bytes);
     put_channels(bytes, [c0.reset(), c1.reset(), c2.reset()], owed);
 }

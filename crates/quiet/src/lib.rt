@@ -14,7 +14,7 @@ use channel::{Channel, ChannelMode};
 use count::{followed_by, steps_in, ticked_by};
 use numbers::{radix_counts, weight};
 use tick::due::{Kind, due};
-use tick::{never_loaded, pulses, takes};
+use tick::{never_loaded, older, pulses, takes};
 
 // As many ticks as one call may ask for.
 const NO_END: u32 = 65536;
@@ -157,7 +157,7 @@ fn steps_each(bcd: bool, element: u16, ticks: u32, each: u32) -> u16
 fn age(c: &mut Channel, ticks: u32)
     ensures { c.new ≡ aged_by ticks c.old }
 {
-    c.counter.cycles_in_state = c.counter.cycles_in_state.saturating_add(ticks);
+    c.counter.cycles_in_state = older(ticks, c.counter.cycles_in_state);
 }
 
 // A tick takes at least one count, so none are made only where there are no ticks.

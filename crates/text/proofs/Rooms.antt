@@ -91,3 +91,19 @@ module _ (room len size place₁ : ℕ) (bytes text bytes₁ : List ℕ) (within
       let made : bytes₁ ≡ over (take size text) bytes len = ap (λ p. p.bytes) all in
       rw (at, made)
       (take_at (take len bytes ++ take size text) (drop (len + length (take size text)) bytes) (len + length (take size text)) front ∙ sym cut)
+
+-- a text that fits, put whole behind another one
+module _ (room len place₁ : ℕ) (bytes text bytes₁ : List ℕ) (within : len ≤ room) (full : length bytes ≡ room)
+    (zeros : drop len bytes ≡ replicate (room - len) 0) (fits : length text ≤ room - len)
+    (put_is : answered place₁ bytes₁ ≡ put text bytes len) where
+  none_cut : length text ≡ min (room - len) (length text)
+  none_cut = omega arith
+
+  as_part : answered place₁ bytes₁ ≡ put (take (length text) text) bytes len
+  as_part = rw (take_all (length text) text (omega arith)) put_is
+
+  pub kept_whole : (place₁ ≤ room) × (length bytes₁ ≡ room) × (drop place₁ bytes₁ ≡ replicate (room - place₁) 0)
+  kept_whole = kept room len (length text) place₁ bytes text bytes₁ within full zeros none_cut as_part
+
+  pub put_whole : take place₁ bytes₁ ≡ take room (take len bytes ++ text)
+  put_whole = put_text room len (length text) place₁ bytes text bytes₁ within full zeros none_cut as_part

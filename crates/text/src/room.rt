@@ -44,6 +44,18 @@ impl<const ROOM: usize> Text<ROOM> {
     pub fn push(&mut self, text: &[u8])
         ensures { self.new ≡ take ROOM (self.old ++ text.now) }
     {
+        if text.len() <= ROOM - self.len {
+            self.len = crate::put(&mut self.bytes, self.len, text);
+        } else {
+            self.push_part(text);
+        }
+    }
+
+    // As much of a text as fits. It stands by itself and is not inlined, so that a text of known length is put as one of that length.
+    #[inline(never)]
+    fn push_part(&mut self, text: &[u8])
+        ensures { self.new ≡ take ROOM (self.old ++ text.now) }
+    {
         let size = (ROOM - self.len).min(text.len());
         self.len = crate::put(&mut self.bytes, self.len, &text[..size]);
     }

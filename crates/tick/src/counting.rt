@@ -3,19 +3,26 @@ ghost use Rattle.std.specs.Prelude.{◌≡◌};
 ghost use Rattle.numbers.specs.Times.{times};
 ghost use Rattle.count.specs.Count.{count};
 ghost use Rattle.tick.specs.Taken.{takes};
-ghost use Rattle.tick.specs.Tick.{aged_by, idle, ends_half, lingers, half_over, counting_on, marked, after_counts};
+ghost use Rattle.tick.specs.Tick.{older, aged_by, idle, ends_half, lingers, half_over, counting_on, marked, after_counts};
 
 use crate::level::{count_level, strobes, takes};
 use crate::loading::{load_at, rested, with_armed};
 use channel::{Channel, ChannelMode, ChannelState, PitType, ReloadFlag};
 
-// The cycles in state after that many ticks that enter none: they stay at the largest number.
+// They stay at the largest number.
+pub fn older(ticks: u32, cycles: u32) -> u32
+    ensures { result ≡ older ticks cycles }
+{
+    cycles.saturating_add(ticks)
+}
+
+// The cycles in state after that many ticks that enter none.
 #[tactic(auto, unfolding(crate::specs::Tick::aged_by))]
 fn aged_by(c: Channel, ticks: u32) -> Channel
     ensures { result ≡ aged_by ticks c }
 {
     let mut next = c;
-    next.counter.cycles_in_state = c.counter.cycles_in_state.saturating_add(ticks);
+    next.counter.cycles_in_state = older(ticks, c.counter.cycles_in_state);
     next
 }
 

@@ -10,6 +10,7 @@ ghost use Rattle.std.specs.Prelude.{◌≡◌};
 ghost use Rattle.tick.specs.Tick.{tick};
 
 use channel::{Channel, PitType};
+pub use counting::older;
 use due::Kind;
 pub use level::{pulses, takes};
 pub use loading::never_loaded;

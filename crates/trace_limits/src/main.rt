@@ -25,22 +25,21 @@ pub(crate) const TEXT: usize = runner::TEXT_ROOM;
 // Of a long replay so many of its last bytes are printed.
 const END: usize = 54;
 
-fn show(rt: &impl Print, name: &str, trace: &[u8]) -> io::Result<()> {
+// The last bytes of a replay, at most as many as are asked for. Not inlined: its room stands once on the stack, whoever calls it.
+#[inline(never)]
+fn show_end(rt: &impl Print, name: &str, trace: &[u8], most: usize) -> io::Result<()> {
     let mut output = [0u8; TEXT];
     let printed = runner::replay(trace, &mut output);
     print!(rt; "{name}: ")?;
-    rt.write_all(&output[..printed])
-}
-
-fn show_end(rt: &impl Print, name: &str, trace: &[u8]) -> io::Result<()> {
-    let mut output = [0u8; TEXT];
-    let printed = runner::replay(trace, &mut output);
-    print!(rt; "{name}: ")?;
-    if printed <= END {
+    if printed <= most {
         return rt.write_all(&output[..printed]);
     }
     print!(rt; "{printed} bytes, the last of them ")?;
-    rt.write_all(&output[printed - END..printed])
+    rt.write_all(&output[printed - most..printed])
+}
+
+fn show(rt: &impl Print, name: &str, trace: &[u8]) -> io::Result<()> {
+    show_end(rt, name, trace, TEXT)
 }
 
 // No operation, and as many bytes as the case has.
@@ -76,7 +75,7 @@ fn last<R: Print + AllocGlobal>(
     }
     push(&mut trace, operation)?;
     trace.resize(length, 0)?;
-    show_end(rt, name, trace.as_slice())
+    show_end(rt, name, trace.as_slice(), END)
 }
 
 fn heads<R: Print + AllocGlobal>(rt: &R) -> io::Result<()> {

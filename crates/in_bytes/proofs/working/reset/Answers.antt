@@ -1,5 +1,4 @@
-use Rattle.std.proofs.Common.{get_or, [], ◌∷◌, ◌∙◌, ap}
-use Rattle.channel.specs.Blank.{blank}
+use Rattle.std.proofs.Common.{[], ◌∷◌, ◌∙◌, ap}
 use Rattle.channel.specs.Fresh as channel
 use Rattle.board.specs.Board.{owing}
 use Rattle.board.specs.Making.{restored}
@@ -12,7 +11,7 @@ unfolding restored
 returns c =
     let bytes = c.args.bytes.now in
     let board = board_in bytes in
-    let first = c.reset.ensures ∙ ap (λ l. channel.reset (get_or l 0 blank)) c.channels_in.ensures in
-    let second = c.reset-2.ensures ∙ ap (λ l. channel.reset (get_or l 1 blank)) c.channels_in.ensures in
-    let third = c.reset-3.ensures ∙ ap (λ l. channel.reset (get_or l 2 blank)) c.channels_in.ensures in
+    let first = c.reset.ensures ∙ ap channel.reset c.channel_in-c0.ensures in
+    let second = c.reset-2.ensures ∙ ap channel.reset c.channel_in-c1.ensures in
+    let third = c.reset-3.ensures ∙ ap channel.reset c.channel_in-c2.ensures in
     c.put_channels.ensures ∙ (λ i. stored (owing board (c.owed_in-owed.ensures i).0 (first i ∷ second i ∷ third i ∷ [])) bytes)
