@@ -41,6 +41,8 @@ pub fn time_bytes(
     ]
 }
 
+// Inlined, so that of a board just made the bytes are known when the program is built.
+#[inline(always)]
 pub fn board_bytes(b: Board) -> [u8; BOARD_SIZE]
     ensures { result ≡ board_bytes b }
 {
